@@ -1,0 +1,1 @@
+// The fourteen ids, key lookup, and which program a key is.

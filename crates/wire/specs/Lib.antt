@@ -1,0 +1,5 @@
+pub mod Below
+pub mod Same
+pub mod Sets
+pub mod Le
+pub mod Zeros
