@@ -1,13 +1,13 @@
 -- Laws of `sets l i vs`, the list l with vs stored from place i on: the form of a promise on a lent table.
 -- Assumes nothing.
 use mathlib.Core.Path.{_≡_, refl, sym, ap, _∙_}
-use mathlib.Core.List.{List, [], _∷_, _++_}
+use mathlib.Core.List.{List, [], _∷_, _++_, append-assoc}
 use Prim.Native.Nat.{ℕ, zero, suc, _+_, _≤_, _<_}
 use native.Mathlib.Nat.{add-zero, zero-add, add-suc, suc-add}
 use native.Mathlib.Numerals.{add-one}
 use native.Mathlib.Omega.{arith}
-use lib.ListN.{length, getD, take, drop, set, length-set}
-use lib.Seq.{sets, set-out, set-comm, take-suc, length-take-le, getD-set-same, getD-set-other}
+use lib.ListN.{length, getD, take, drop, set, length-set, take-append-drop}
+use lib.Seq.{sets, sets-eq, length-sets, drop-drop, set-out, set-comm, take-suc, length-take-le, getD-set-same, getD-set-other}
 
 -- a run of stores in two runs
 pub sets-append : (l : List ℕ) (i : ℕ) (a b : List ℕ) → sets l i (a ++ b) ≡ sets (sets l i a) (i + length a) b
@@ -56,3 +56,14 @@ sets-swap l i (x ∷ a) j b h = rw (sets-set l j b i x (omega arith)) (sets-swap
 pub sets-past : (l : List ℕ) (i : ℕ) (vs : List ℕ) → length l ≤ i → sets l i vs ≡ l
 sets-past l i [] h = refl
 sets-past l i (v ∷ vs) h = rw (set-out l i v h) (sets-past l (suc i) vs (omega arith))
+
+-- what a copy into the part from i on leaves
+pub sets-part : (l : List ℕ) (i : ℕ) (vs : List ℕ) → i + length vs ≤ length l → take i l ++ (vs ++ drop (length vs) (drop i l)) ≡ sets l i vs
+sets-part l i vs h = rw (drop-drop (length vs) i l, sets-eq vs l i h, append-assoc)
+
+-- stores that run past the end
+pub sets-cut : (l : List ℕ) (i : ℕ) (vs : List ℕ) (n : ℕ) → i + n ≡ length l → n ≤ length vs → sets l i (take n vs) ≡ sets l i vs
+sets-cut l i vs n e h =
+    sym (sets-past (sets l i (take n vs)) (i + length (take n vs)) (drop n vs) (rw (length-sets, length-take-le n vs h) (omega arith)))
+    ∙ sym (sets-append l i (take n vs) (drop n vs))
+    ∙ ap (sets l i) (take-append-drop n vs)

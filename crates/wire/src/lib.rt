@@ -3,6 +3,7 @@
 // Every function is total: a byte past the end reads as 0, and a store past the end does nothing. So a contract is one equation, with no condition on
 // offsets, and no caller has to prove that a field fits.
 ghost use mathlib.Core.Path.{_≡_};
+ghost use Prim.Native.Nat.{_+_, _≤_};
 ghost use lib.ListN.{length, getD, set};
 ghost use lib.Seq.{sets};
 ghost use Rattle.wire.specs.Le.{le, leBytes};
@@ -59,7 +60,7 @@ pub fn put_u16(d: &mut [u8], at: usize, x: u16)
         return;
     }
     put_byte(d, at, (x % 256) as u8);
-    put_byte(d, at + 1, (x / 256) as u8);
+    put_byte(d, at + 1, (x / 256 % 256) as u8);
 }
 
 pub fn put_u32(d: &mut [u8], at: usize, x: u32)
@@ -82,6 +83,15 @@ pub fn put_u64(d: &mut [u8], at: usize, x: u64)
     put_u32(d, at + 4, (x / 4294967296) as u32);
 }
 
+// Copies a run that fits.
+fn lay(d: &mut [u8], at: usize, s: &[u8])
+    requires { ⌜ at + length (now s) ≤ length (now d) ⌝ }
+    ensures { λ _. ⌜ now (d .exit) ≡ sets (now (d .entry)) at (now (s .entry)) ⌝ }
+{
+    let end = at + s.len();
+    bytes::copy(s, &mut d[at..end]);
+}
+
 // Copies a run into a row.
 pub fn put(d: &mut [u8], at: usize, s: &[u8])
     ensures { λ _. ⌜ now (d .exit) ≡ sets (now (d .entry)) at (now (s .entry)) ⌝ }
@@ -91,9 +101,9 @@ pub fn put(d: &mut [u8], at: usize, s: &[u8])
     }
     let room = d.len() - at;
     if s.len() <= room {
-        bytes::copy(s, &mut d[at..]);
+        lay(d, at, s);
     } else {
-        bytes::copy(&s[0..room], &mut d[at..]);
+        lay(d, at, &s[0..room]);
     }
 }
 
