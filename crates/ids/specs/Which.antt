@@ -12,7 +12,7 @@ use Rattle.ids.specs.declared.Id.{Id}
 use Rattle.ids.specs.declared.Id.the-variants.{SplToken, Token2022, WrappedSol, ComputeBudget, AssociatedToken, Memo, PumpFun, LaunchLab, PumpSwap, Clmm, Cpmm, AmmV4, Orca, Dlmm, System, Other, Unresolved}
 
 -- the number of a case: its row in the table of ids, or past the table
-unfoldable pub numberOf : Id → ℕ
+abbrev pub numberOf : Id → ℕ
 numberOf SplToken = 0
 numberOf Token2022 = 1
 numberOf WrappedSol = 2

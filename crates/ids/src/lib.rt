@@ -9,8 +9,8 @@ ghost use lib.Dec.{ltb};
 ghost use lib.ListN.{getD};
 ghost use Rattle.wire.specs.Same.{same};
 ghost use Rattle.ids.specs.Ids.{ids, idAt};
-ghost use Rattle.ids.specs.Keys.{keyAt, keyCount, zeroKey};
-ghost use Rattle.ids.specs.Which.{numberOf, ofNumber, rowFrom, which as whichOf, programAt};
+ghost use Rattle.ids.specs.Keys.{keyAt, keyCount};
+ghost use Rattle.ids.specs.Which.{ofNumber, rowFrom, which as whichOf, programAt};
 
 const IDS: [u8; 448] = *b"\
     \x06\xdd\xf6\xe1\xd7\x65\xa1\x93\xd9\xcb\xe1\x46\xce\xeb\x79\xac\x1c\xb4\x85\xed\x5f\x5b\x37\x91\x3a\x8c\xf5\x85\x7e\xff\x00\xa9\
@@ -96,33 +96,8 @@ pub fn is_id(k: usize, key: &[u8]) -> bool
     true
 }
 
-// The number of a case.
-pub fn number(id: Id) -> u8
-    ensures { λ r. ⌜ r ≡ numberOf id ⌝ }
-{
-    match id {
-        Id::SplToken => 0,
-        Id::Token2022 => 1,
-        Id::WrappedSol => 2,
-        Id::ComputeBudget => 3,
-        Id::AssociatedToken => 4,
-        Id::Memo => 5,
-        Id::PumpFun => 6,
-        Id::LaunchLab => 7,
-        Id::PumpSwap => 8,
-        Id::Clmm => 9,
-        Id::Cpmm => 10,
-        Id::AmmV4 => 11,
-        Id::Orca => 12,
-        Id::Dlmm => 13,
-        Id::System => 14,
-        Id::Other => 15,
-        Id::Unresolved => 16,
-    }
-}
-
 // The case of a number.
-pub fn of_number(n: u8) -> Id
+fn of_number(n: u8) -> Id
     ensures { λ r. ⌜ r ≡ ofNumber n ⌝ }
 {
     match n {
@@ -144,4 +119,40 @@ pub fn of_number(n: u8) -> Id
         15 => Id::Other,
         _ => Id::Unresolved,
     }
+}
+
+// The row of a key in the table, or 14 for the zero key and 15 for any other.
+fn row_of(key: &[u8]) -> u8
+    ensures { λ r. ⌜ r ≡ rowFrom (now (key .entry)) 14 0 ⌝ }
+{
+    let mut k: usize = 0;
+    while k < 14 {
+        if is_id(k, key) {
+            return k as u8;
+        }
+        k += 1;
+    }
+    let blank = [0u8; 32];
+    if wire::equal(key, &blank) { 14 } else { 15 }
+}
+
+// Which program a key is.
+pub fn which(key: &[u8]) -> Id
+    ensures { λ r. ⌜ r ≡ whichOf (now (key .entry)) ⌝ }
+{
+    of_number(row_of(key))
+}
+
+// Which program the key of row `index` is: resolved only in range with flag 1.
+pub fn program(keys: &[u8], index: usize) -> Id
+    ensures { λ r. ⌜ r ≡ programAt (now (keys .entry)) index ⌝ }
+{
+    if keys.len() / 33 <= index {
+        return Id::Unresolved;
+    }
+    let at = index * 33;
+    if keys[at] != 1 {
+        return Id::Unresolved;
+    }
+    which(&keys[at + 1..at + 33])
 }
