@@ -1,0 +1,4 @@
+pub mod Lay
+pub mod Row
+pub mod Program
+pub mod Arrays
