@@ -1,0 +1,14 @@
+pub mod Keys
+pub mod Table
+pub mod Evidence
+pub mod Recording
+pub mod Distinct
+pub mod Passes
+pub mod Run
+pub mod Infer
+pub mod Chains
+pub mod Sorted
+pub mod Final
+pub mod Marks
+pub mod MintTable
+pub mod Cases

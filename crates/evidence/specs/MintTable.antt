@@ -1,0 +1,47 @@
+-- The mint table as it is written: final rows with their marks, the room for them, and the passes. Assumes nothing.
+use mathlib.Core.Option.{Option, none, some}
+use mathlib.Core.Bool.{cond}
+use mathlib.Core.List.{List, [], _∷_, map}
+use Prim.Native.Nat.{ℕ}
+use lib.ListN.{length}
+use Rattle.wire.specs.Same.{same}
+use Rattle.ids.specs.Keys.{Key}
+use Rattle.evidence.specs.Table.{Row, Table}
+use Rattle.evidence.specs.Evidence.{Evidence, recorded}
+use Rattle.evidence.specs.Passes.{Transfers}
+use Rattle.evidence.specs.Run.{Outcome}
+use Rattle.evidence.specs.Infer.{infer}
+use Rattle.evidence.specs.Final.{final}
+use Rattle.evidence.specs.Marks.{markOf}
+
+-- account, mint, mark
+abbrev pub MintRow : Type 0
+MintRow = Key × Key × ℕ
+
+-- a row of the final table t with its mark, r what is recorded
+abbrev pub withMark : Table → Transfers → Table → Row → MintRow
+withMark r ps t x = (x .0, x .1, markOf r ps t (x .0))
+
+-- the rows that are written: r what is recorded, t the table when the passes are over
+unfoldable pub mintTable : Table → Transfers → Table → List MintRow
+mintTable r ps t = map (withMark r ps (final t)) (final t)
+
+-- the rows, the accounts that need room (ambiguous ones count), and the passes
+pub record Answer : Type 0 where
+  pub rows : List MintRow
+  pub room : ℕ
+  pub passes : ℕ
+
+-- the answer when the passes are over
+unfoldable pub finish : Table → Transfers → Option Outcome → Option Answer
+finish r ps none = none
+finish r ps (some t) = some (record { rows = mintTable r ps (t .0); room = length (t .0); passes = t .1 })
+
+-- the mint table of all evidence and all plain transfers; none where the fuel, the passes that are allowed, does not suffice
+unfoldable pub mints : ℕ → Evidence → Transfers → Option Answer
+mints f e ps = finish (recorded e) ps (infer f e ps)
+
+-- the mint that the table gives an account: its first row with that account decides
+unfoldable pub mintIn : List MintRow → Key → Option Key
+mintIn [] a = none
+mintIn (r ∷ l) a = cond (same a (r .0)) (some (r .1)) (mintIn l a)
