@@ -1,10 +1,11 @@
 -- Chains: the rows that passes add are those that chains reach (T3, T4). Assumes nothing.
 use mathlib.Core.Path.{_≡_, sym}
-use mathlib.Core.Logic.{_≢_, _⊎_, inl, inr, _↔_}
+use mathlib.Core.Logic.{_≢_, _⊎_, inl, inr, _↔_, ⊎-elim, by-cases}
 use Rattle.ids.specs.Keys.{Key, zeroKey}
+use Rattle.evidence.specs.Keys.{key?}
 use Rattle.evidence.specs.Table.{Table, add, Has, Lacks, has-add, has-not-lacks, has-or-lacks, add-cases}
-use Rattle.evidence.specs.Evidence.{Evidence, recorded, Free, One}
-use Rattle.evidence.specs.Recording.{one-has, has-one-recorded, free-lacks, lacks-free, one-not-zero}
+use Rattle.evidence.specs.Evidence.{Evidence, recorded, Free, One, Clash}
+use Rattle.evidence.specs.Recording.{one-has, has-one-recorded, clash-has, has-clash, free-lacks, lacks-free, one-not-zero}
 use Rattle.evidence.specs.Passes.{Transfers, Hands, Joined, Grown, grown, grow}
 use Rattle.evidence.specs.Infer.{Settled}
 
@@ -76,3 +77,10 @@ module _ {e : Evidence} {ps : Transfers} where
   -- an account with no recorded mint is filled in exactly when a chain reaches it
   pub filled : {a : Key} {t : Table} → Settled e ps t → Free e a → ((m : Key) × Has a m t) ↔ ((m : Key) × Chain e ps m a)
   filled s f = (λ h. (h .0, filled-chain s f (h .1)), λ c. let k = complete s (c .1) in (k .0, k .1))
+
+  -- an account has a row, and needs room, exactly when two pieces of evidence for it differ or a chain reaches it
+  pub rowed : {a : Key} {t : Table} → Settled e ps t → ((m : Key) × Has a m t) ↔ (Clash e a ⊎ ((m : Key) × Chain e ps m a))
+  rowed {a} {t} s = (λ r. to r, λ w. ⊎-elim (λ c. (zeroKey, (settled-sound s) .kept (clash-has c))) (λ c. let k = complete s (c .1) in (k .0, k .1)) w)
+    where
+      to : (m : Key) × Has a m t → Clash e a ⊎ ((m : Key) × Chain e ps m a)
+      to (m, h) = by-cases (key? m zeroKey) (λ z. inl (has-clash ((settled-sound s) .clear (rw z at h)))) (λ n. inr (m, (settled-sound s) .chain h n))

@@ -9,6 +9,10 @@ pub mod Infer
 pub mod Chains
 pub mod Sorted
 pub mod Final
+pub mod Gather
+pub mod Independence
+pub mod Bound
 pub mod Marks
 pub mod MintTable
+pub mod Order
 pub mod Cases

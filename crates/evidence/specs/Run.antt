@@ -67,3 +67,7 @@ module _ {g : Table → Table} {u : Table} where
   pub ran-length : {t : Table} {n : ℕ} → Ran g u t n → length t + n ≤ suc (length u)
   ran-length (ends e) = omega arith
   ran-length (goes l r) = omega (arith, ran-length r)
+
+  pub ran-positive : {t : Table} {n : ℕ} → Ran g u t n → 0 < n
+  ran-positive (ends e) = omega arith
+  ran-positive (goes l r) = omega arith
