@@ -8,7 +8,8 @@ use Rattle.ids.specs.Keys.{Key, zeroKey}
 use Rattle.evidence.specs.Keys.{isZero, key?}
 use Rattle.evidence.specs.Table.{Row, Table, Has, Lacks, lacks-cons, row-of-has}
 use Rattle.evidence.specs.Distinct.{Distinct, distinct-cons, row-has}
-use Rattle.evidence.specs.Sorted.{Sorted, sort, sort-same, sorted-sort, sorted-unique, sorted-distinct}
+use Rattle.evidence.specs.Sorted.{Sorted, sort, sort-same, sorted-sort, sorted-distinct}
+use Rattle.evidence.specs.Ascending.{ascending-unique}
 
 -- the rows that are not ambiguous
 unfoldable pub clean : Table → Table
@@ -82,7 +83,7 @@ pub record Rows (t u : Table) : Type 0 where
 
 -- however a program sorts, its table is the final one
 pub final-is : {t u : Table} → Distinct t → Sorted u → Rows t u → u ≡ final t
-final-is {t} {u} d s r = sorted-unique s (final-sorted d) (record { to = λ i. to i; from = λ i. from i })
+final-is {t} {u} d s r = ascending-unique s (final-sorted d) (record { to = λ i. to i; from = λ i. from i })
   where
     to : {x : Row} → List·Memᴰ x u → List·Memᴰ x (final t)
     to i = let k = r .right i in has-final d (k .0) (k .1)

@@ -5,9 +5,9 @@ use native.Mathlib.Omega.{arith}
 use lib.ListN.{length}
 use Rattle.ids.specs.Keys.{Key, zeroKey}
 use Rattle.evidence.specs.Keys.{key?}
-use Rattle.evidence.specs.Table.{Table, accounts, Has, SameMembers, same-sym}
-use Rattle.evidence.specs.Evidence.{Evidence, Agree, Free, One, free-map, one-map, clash-map}
-use Rattle.evidence.specs.Recording.{one-has, clash-has, has-clash}
+use Rattle.evidence.specs.Table.{Table, accounts, lookup, Has, SameMembers, same-sym}
+use Rattle.evidence.specs.Evidence.{Evidence, recorded, Agree, Free, One, free-map, one-map, clash-map}
+use Rattle.evidence.specs.Recording.{recorded-lookup, one-has, clash-has, has-clash}
 use Rattle.evidence.specs.Distinct.{Distinct, distinct-add, distinct-recorded, Covered, covered-length}
 use Rattle.evidence.specs.Passes.{Transfers, pass, pass-grown, forth, back, Joined, joined, Grown, grown, grow}
 use Rattle.evidence.specs.Infer.{Settled, settled-distinct}
@@ -22,6 +22,10 @@ same-agree s a =
       to = λ i. record { piece = s .to (i .piece); account = i .account; mint = i .mint };
       from = λ i. record { piece = s .from (i .piece); account = i .account; mint = i .mint };
     }
+
+-- T1. What is recorded of an account depends on the members of the evidence alone.
+pub same-recorded : {e e′ : Evidence} → SameMembers e e′ → (a : Key) → lookup (recorded e) a ≡ lookup (recorded e′) a
+same-recorded s a = recorded-lookup (same-agree s a)
 
 pub same-joined : {ps ps′ : Transfers} {a b : Key} → SameMembers ps ps′ → Joined ps a b → Joined ps′ a b
 same-joined s (joined x i) = joined x (s .to i)

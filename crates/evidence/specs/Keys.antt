@@ -1,6 +1,7 @@
 -- The zero key, the decision between two keys, and their order byte by byte, each with the lemmas by which proofs use it. Assumes nothing.
 use mathlib.Core.Path.{_≡_, refl, sym, _∙_, ap₂}
-use mathlib.Core.Bool.{Bool, true, false, _&&_, _||_, or-true, and-false}
+use mathlib.Core.Logic.{_≢_}
+use mathlib.Core.Bool.{Bool, true, false, false≢true, _&&_, _||_, or-true, and-false}
 use mathlib.Core.List.{[], _∷_, List-discrete}
 use Prim.Native.Nat.{ℕ, _<_}
 use native.Mathlib.Nat.{lt-irrefl, lt-trans}
@@ -79,3 +80,26 @@ unfolding ltKey
 ltKey-above shorter = refl
 ltKey-above (here {x} {y} h) = rw (le-ltb y x (omega arith), ne-eqb y x (omega arith))
 ltKey-above (next {x} {y} e h) = rw (le-ltb y x (omega arith), ltKey-above h, and-false (eqb y x))
+
+ltKey-refl : (a : Key) → ltKey a a ≡ false
+unfolding ltKey
+ltKey-refl [] = refl
+ltKey-refl (x ∷ a) = rw (le-ltb x x (omega arith), ltKey-refl a, and-false (eqb x x))
+
+-- a key that passes the test is below
+pub ltKey-true : (a b : Key) → ltKey a b ≡ true → Below a b
+ltKey-true a b e = go (order a b)
+  where
+    go : Order a b → Below a b
+    go (less h) = h
+    go (level q) = absurd (false≢true (sym (rw q (ltKey-refl b)) ∙ e))
+    go (more h) = absurd (false≢true (sym (ltKey-above h) ∙ e))
+
+-- one that fails it, and differs, is above
+pub ltKey-false : (a b : Key) → ltKey a b ≡ false → a ≢ b → Below b a
+ltKey-false a b e n = go (order a b)
+  where
+    go : Order a b → Below b a
+    go (less h) = absurd (false≢true (sym e ∙ ltKey-below h))
+    go (level q) = absurd (n q)
+    go (more h) = h

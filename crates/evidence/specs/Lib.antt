@@ -7,6 +7,7 @@ pub mod Passes
 pub mod Run
 pub mod Infer
 pub mod Chains
+pub mod Ascending
 pub mod Sorted
 pub mod Final
 pub mod Gather
@@ -15,4 +16,7 @@ pub mod Bound
 pub mod Marks
 pub mod MintTable
 pub mod Order
+pub mod Lookups
+pub mod Loops
+pub mod Written
 pub mod Cases

@@ -1,6 +1,6 @@
 -- T1: after all evidence the table says of each account what the members of the evidence say. Assumes nothing.
 use mathlib.Core.Path.{_≡_, refl, sym, _∙_, ap}
-use mathlib.Core.Logic.{_≢_, _⊎_, inl, inr, ⊎-elim, by-cases}
+use mathlib.Core.Logic.{_≢_, _⊎_, inl, inr, _↔_, ⊎-elim, by-cases}
 use mathlib.Core.Bool.{Bool, true, false, cond, _||_, or-true}
 use mathlib.Core.List.{[], _∷_, _++_, append-assoc, append-nil, List·Memᴰ, List·Memᴰ·head, List·Memᴰ·append-cases, List·Memᴰ·not-nil, List·Memᴰ·eq-of-singleton, Memᴰ·append-left, Memᴰ·append-right}
 use Rattle.wire.specs.Same.{same-eq, same-ne}
@@ -10,12 +10,12 @@ use Rattle.evidence.specs.Table.{Row, Table, add, Has, has-here, has-the
 use Rattle.evidence.specs.Evidence.{Evidence, put, note, noteAll, recorded, Says, Free, One, Clash, Noted, free, one, clash, Agree, free-map, one-map, clash-map}
 
 module _ {a m : Key} where
-  put-same : {t : Table} → Has a m t → put t a m ≡ t
+  pub put-same : {t : Table} → Has a m t → put t a m ≡ t
   unfolding put
   put-same (has-here e f) = rw (same-eq e, same-eq f)
   put-same (has-there n h) = rw (same-ne n, put-same h)
 
-  put-clash : {k : Key} {t : Table} → m ≢ k → Has a k t → Has a zeroKey (put t a m)
+  pub put-clash : {k : Key} {t : Table} → m ≢ k → Has a k t → Has a zeroKey (put t a m)
   unfolding put
   put-clash d (has-here {r} e f) = rw (same-eq e, same-ne (λ (g : m ≡ r .1). d (g ∙ sym f))) (has-here e refl)
   put-clash d (has-there n h) = rw (same-ne n) (has-there n (put-clash d h))
@@ -27,7 +27,7 @@ put-new m (lacks-cons n l) = rw (same-ne n, put-new m l)
 
 -- evidence for one account leaves the others alone
 module _ {a b : Key} (n : b ≢ a) (m : Key) where
-  put-other : {k : Key} {t : Table} → Has b k t → Has b k (put t a m)
+  pub put-other : {k : Key} {t : Table} → Has b k t → Has b k (put t a m)
   unfolding put
   put-other (has-here {r} {t} e f) = rw (same-ne (λ (g : a ≡ r .0). n (e ∙ sym g))) (has-here e f)
   put-other (has-there {r} {t} d h) = by-cases (key? a (r .0)) (λ g. rw (same-eq g) (has-there d h)) (λ g. rw (same-ne g) (has-there d (put-other h)))
@@ -37,15 +37,15 @@ module _ {a b : Key} (n : b ≢ a) (m : Key) where
   put-other-lacks lacks-nil = lacks-cons n lacks-nil
   put-other-lacks (lacks-cons {r} {t} d l) = by-cases (key? a (r .0)) (λ g. rw (same-eq g) (lacks-cons d l)) (λ g. rw (same-ne g) (lacks-cons d (put-other-lacks l)))
 
-note-account : (x : Row) (t : Table) → x .0 ≡ zeroKey → note t x ≡ t
+pub note-account : (x : Row) (t : Table) → x .0 ≡ zeroKey → note t x ≡ t
 unfolding note
 note-account x t e = rw (same-eq e)
 
-note-mint : (x : Row) (t : Table) → x .1 ≡ zeroKey → note t x ≡ t
+pub note-mint : (x : Row) (t : Table) → x .1 ≡ zeroKey → note t x ≡ t
 unfolding note
 note-mint x t e = rw (same-eq e, or-true (isZero (x .0)))
 
-note-valid : (x : Row) (t : Table) → x .0 ≢ zeroKey → x .1 ≢ zeroKey → note t x ≡ put t (x .0) (x .1)
+pub note-valid : (x : Row) (t : Table) → x .0 ≢ zeroKey → x .1 ≢ zeroKey → note t x ≡ put t (x .0) (x .1)
 unfolding note
 note-valid x t n d = rw (same-ne n, same-ne d)
 
@@ -204,3 +204,14 @@ recorded-lookup {e} {e′} {a} g = go (recorded-noted e a)
     go (free f l) = lacks-lookup l ∙ sym (lacks-lookup (free-lacks (free-map g f)))
     go (one o h) = has-lookup h ∙ sym (has-lookup (one-has (one-map g o)))
     go (clash c h) = has-lookup h ∙ sym (has-lookup (clash-has (clash-map g c)))
+
+-- nothing is recorded exactly when there is no valid evidence for any account
+pub recorded-none : (e : Evidence) → (recorded e ≡ []) ↔ ((a : Key) → Free e a)
+recorded-none e = (λ q a. lacks-free (rw q lacks-nil), λ f. go (recorded e) (λ a. free-lacks (f a)))
+  where
+    headless : {r : Row} {t : Table} → ¬ Lacks (r .0) (r ∷ t)
+    headless (lacks-cons n l) = n refl
+
+    go : (t : Table) → ((a : Key) → Lacks a t) → t ≡ []
+    go [] f = refl
+    go (r ∷ t) f = absurd (headless (f (r .0)))

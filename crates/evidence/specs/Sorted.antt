@@ -1,4 +1,4 @@
--- Tables in the order of their accounts: a sorted table is told by its members. Assumes nothing.
+-- Tables sorted by their accounts. Assumes nothing.
 use mathlib.Core.Path.{_≡_, refl, sym, _∙_, ap, ap₂, subst}
 use mathlib.Core.Logic.{_≢_, _⊎_, inl, inr, ⊎-map}
 use mathlib.Core.Bool.{Bool, true, false, cond}
@@ -6,6 +6,7 @@ use mathlib.Core.List.{List, [], _∷_, List·Memᴰ, List·Memᴰ·head, List·
 use Rattle.ids.specs.Keys.{Key}
 use Rattle.evidence.specs.Keys.{Below, below-irrefl, below-trans, Order, less, level, more, order, ltKey, ltKey-below, ltKey-above}
 use Rattle.evidence.specs.Table.{Row, Table, accounts, Lacks, lacks-nil, lacks-cons, row-of-has, SameMembers}
+use Rattle.evidence.specs.Ascending.{Ascending, asc-nil, asc-cons, ascending-unique, ascending-map}
 use Rattle.evidence.specs.Distinct.{Distinct, distinct-nil, distinct-cons, row-has, Covered}
 
 -- a row in its place
@@ -19,35 +20,8 @@ sort [] = []
 sort (r ∷ t) = insert r (sort t)
 
 -- ascending by account, with no account twice
-pub data Sorted : Table → Type 0 where
-  sorted-nil : Sorted []
-  sorted-cons : {r : Row} {t : Table} → ((x : Row) → List·Memᴰ x t → Below (r .0) (x .0)) → Sorted t → Sorted (r ∷ t)
-
--- two sorted tables with the same members are equal
-pub sorted-unique : {t u : Table} → Sorted t → Sorted u → SameMembers t u → t ≡ u
-sorted-unique sorted-nil sorted-nil s = refl
-sorted-unique sorted-nil (sorted-cons g su) s = absurd (List·Memᴰ·not-nil (s .from (List·Memᴰ·head refl)))
-sorted-unique (sorted-cons f st) sorted-nil s = absurd (List·Memᴰ·not-nil (s .to (List·Memᴰ·head refl)))
-sorted-unique (sorted-cons {r} {t} f st) (sorted-cons {r = x} {t = u} g su) s = ap₂ _∷_ first (sorted-unique st su rest)
-  where
-    first : r ≡ x
-    first = go (List·Memᴰ·cases-cons (s .to (List·Memᴰ·head refl))) (List·Memᴰ·cases-cons (s .from (List·Memᴰ·head refl)))
-      where
-        go : (r ≡ x) ⊎ List·Memᴰ r u → (x ≡ r) ⊎ List·Memᴰ x t → r ≡ x
-        go (inl q) k = q
-        go (inr i) (inl q) = sym q
-        go (inr i) (inr k) = absurd (below-irrefl (below-trans (f x k) (g r i)))
-
-    rest : SameMembers t u
-    rest = record { to = λ i. to i (List·Memᴰ·cases-cons (s .to (List·Memᴰ·tail i))); from = λ i. from i (List·Memᴰ·cases-cons (s .from (List·Memᴰ·tail i))) }
-      where
-        to : {y : Row} → List·Memᴰ y t → (y ≡ x) ⊎ List·Memᴰ y u → List·Memᴰ y u
-        to {y} i (inl q) = absurd (below-irrefl (subst (λ (z : Row). Below (r .0) (z .0)) (q ∙ sym first) (f y i)))
-        to i (inr k) = k
-
-        from : {y : Row} → List·Memᴰ y u → (y ≡ r) ⊎ List·Memᴰ y t → List·Memᴰ y t
-        from {y} i (inl q) = absurd (below-irrefl (subst (λ (z : Row). Below (x .0) (z .0)) (q ∙ first) (g y i)))
-        from i (inr k) = k
+abbrev pub Sorted : Table → Type 0
+Sorted t = Ascending (λ r. r .0) t
 
 -- u is t with the row r somewhere in it
 data Inserts (r : Row) : Table → Table → Type 0 where
@@ -94,8 +68,8 @@ sort-same (r ∷ t) = record { to = λ i. to (sort-same t) (inserts-mem (insert-
 
 sorted-insert : (r : Row) {t : Table} → ((x : Row) → List·Memᴰ x t → r .0 ≢ x .0) → Sorted t → Sorted (insert r t)
 unfolding insert
-sorted-insert r n sorted-nil = sorted-cons (λ x i. absurd (List·Memᴰ·not-nil i)) sorted-nil
-sorted-insert r n (sorted-cons {r = x} {t} f s) = go (order (r .0) (x .0)) (sorted-insert r (λ y i. n y (List·Memᴰ·tail i)) s)
+sorted-insert r n asc-nil = asc-cons (λ x i. absurd (List·Memᴰ·not-nil i)) asc-nil
+sorted-insert r n (asc-cons {r = x} {t} f s) = go (order (r .0) (x .0)) (sorted-insert r (λ y i. n y (List·Memᴰ·tail i)) s)
   where
     beyond : Below (r .0) (x .0) → (y : Row) → (y ≡ x) ⊎ List·Memᴰ y t → Below (r .0) (y .0)
     beyond h y (inl q) = rw q h
@@ -106,9 +80,9 @@ sorted-insert r n (sorted-cons {r = x} {t} f s) = go (order (r .0) (x .0)) (sort
     past h y (inr i) = f y i
 
     go : Order (r .0) (x .0) → Sorted (insert r t) → Sorted (cond (ltKey (r .0) (x .0)) (r ∷ x ∷ t) (x ∷ insert r t))
-    go (less h) below = rw (ltKey-below h) (sorted-cons (λ y i. beyond h y (List·Memᴰ·cases-cons i)) (sorted-cons f s))
+    go (less h) below = rw (ltKey-below h) (asc-cons (λ y i. beyond h y (List·Memᴰ·cases-cons i)) (asc-cons f s))
     go (level q) below = absurd (n x (List·Memᴰ·head refl) q)
-    go (more h) below = rw (ltKey-above h) (sorted-cons (λ y i. past h y (inserts-mem (insert-inserts r t) i)) below)
+    go (more h) below = rw (ltKey-above h) (asc-cons (λ y i. past h y (inserts-mem (insert-inserts r t) i)) below)
 
 lacks-mem : {a : Key} {t : Table} → Lacks a t → (x : Row) → List·Memᴰ x t → a ≢ x .0
 lacks-mem (lacks-cons n l) x (List·Memᴰ·head q) e = n (e ∙ ap (λ r. r .0) q)
@@ -120,41 +94,23 @@ mem-lacks {t = r ∷ t} n = lacks-cons (n r (List·Memᴰ·head refl)) (mem-lack
 
 pub sorted-sort : {t : Table} → Distinct t → Sorted (sort t)
 unfolding sort
-sorted-sort distinct-nil = sorted-nil
+sorted-sort distinct-nil = asc-nil
 sorted-sort (distinct-cons {r} {t} l d) = sorted-insert r (λ x i. lacks-mem l x ((sort-same t) .to i)) (sorted-sort d)
 
 pub sorted-distinct : {t : Table} → Sorted t → Distinct t
-sorted-distinct sorted-nil = distinct-nil
-sorted-distinct (sorted-cons {r} f s) = distinct-cons (mem-lacks (λ x i q. below-irrefl (subst (λ (k : Key). Below k (x .0)) q (f x i)))) (sorted-distinct s)
+sorted-distinct asc-nil = distinct-nil
+sorted-distinct (asc-cons {r} f s) = distinct-cons (mem-lacks (λ x i q. below-irrefl (subst (λ (k : Key). Below k (x .0)) q (f x i)))) (sorted-distinct s)
 
--- the accounts alone, each with itself
-heads : Table → Table
-heads t = map (λ r. (r .0, r .0)) t
-
-heads-accounts : (t : Table) → accounts (heads t) ≡ accounts t
-unfolding heads
-heads-accounts [] = refl
-heads-accounts (r ∷ t) = ap (λ (l : List Key). r .0 ∷ l) (heads-accounts t)
-
-heads-sorted : {t : Table} → Sorted t → Sorted (heads t)
-unfolding heads
-heads-sorted sorted-nil = sorted-nil
-heads-sorted (sorted-cons {r} {t} f s) = sorted-cons below (heads-sorted s)
-  where
-    below : (x : Row) → List·Memᴰ x (heads t) → Below (r .0) (x .0)
-    below x i = let y = Memᴰ·of-map (λ (r : Row). (r .0, r .0)) t i in subst (λ (z : Row). Below (r .0) (z .0)) (y .2) (f (y .0) (y .1))
-
-heads-to : {x : Row} {t u : Table} → Distinct t → Covered t u → List·Memᴰ x (heads t) → List·Memᴰ x (heads u)
-unfolding heads
-heads-to {t} d c i =
-    let y = Memᴰ·of-map (λ (r : Row). (r .0, r .0)) t i in
+accounts-to : {a : Key} {t u : Table} → Distinct t → Covered t u → List·Memᴰ a (accounts t) → List·Memᴰ a (accounts u)
+accounts-to {t} d c i =
+    let y = Memᴰ·of-map (λ (r : Row). r .0) t i in
     let k = c .cover (row-has {a = y .0 .0} {m = y .0 .1} d (y .1)) in
-    Memᴰ·cast (sym (y .2)) (Memᴰ·map (λ (r : Row). (r .0, r .0)) (row-of-has (k .1)))
+    Memᴰ·cast (sym (y .2)) (Memᴰ·map (λ (r : Row). r .0) (row-of-has (k .1)))
 
 -- sorted tables with the same accounts have them in one order
 pub same-accounts : {t u : Table} → Sorted t → Sorted u → Covered t u → Covered u t → accounts t ≡ accounts u
-same-accounts {t} {u} st su c d =
-    sym (heads-accounts t) ∙ ap accounts (sorted-unique (heads-sorted st) (heads-sorted su) same-heads) ∙ heads-accounts u
-  where
-    same-heads : SameMembers (heads t) (heads u)
-    same-heads = record { to = λ i. heads-to (sorted-distinct st) c i; from = λ i. heads-to (sorted-distinct su) d i }
+same-accounts st su c d =
+    ascending-unique
+    (ascending-map (λ r. r .0) (λ a. a) st)
+    (ascending-map (λ r. r .0) (λ a. a) su)
+    (record { to = λ i. accounts-to (sorted-distinct st) c i; from = λ i. accounts-to (sorted-distinct su) d i })

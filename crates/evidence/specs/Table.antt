@@ -128,10 +128,10 @@ add-cases {a} {b} {k} {m} {t} l h = go (has-or-lacks t)
     go (inl (j, i)) = inl (rw (has-one h (has-add b m i)) i)
     go (inr n) = by-cases (key? a b) (λ e. inr (e, has-one (new e) (has-new m l))) (λ d. absurd (has-not-lacks h (lacks-add m d n)))
 
--- two lists of pairs with the same members
-pub record SameMembers (l l′ : List Row) : Type 0 where
-  pub to : {x : Row} → List·Memᴰ x l → List·Memᴰ x l′
-  pub from : {x : Row} → List·Memᴰ x l′ → List·Memᴰ x l
+-- two lists with the same members
+pub record SameMembers {A : Type 0} (l l′ : List A) : Type 0 where
+  pub to : {x : A} → List·Memᴰ x l → List·Memᴰ x l′
+  pub from : {x : A} → List·Memᴰ x l′ → List·Memᴰ x l
 
-pub same-sym : {l l′ : List Row} → SameMembers l l′ → SameMembers l′ l
+pub same-sym : {A : Type 0} {l l′ : List A} → SameMembers l l′ → SameMembers l′ l
 same-sym s = record { to = λ i. s .from i; from = λ i. s .to i }
