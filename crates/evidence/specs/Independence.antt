@@ -8,8 +8,8 @@ use Rattle.evidence.specs.Keys.{key?}
 use Rattle.evidence.specs.Table.{Table, accounts, lookup, Has, SameMembers, same-sym}
 use Rattle.evidence.specs.Evidence.{Evidence, recorded, Agree, Free, One, free-map, one-map, clash-map}
 use Rattle.evidence.specs.Recording.{recorded-lookup, one-has, clash-has, has-clash}
-use Rattle.evidence.specs.Distinct.{Distinct, distinct-add, distinct-recorded, Covered, covered-length}
-use Rattle.evidence.specs.Passes.{Transfers, pass, pass-grown, forth, back, Joined, joined, Grown, grown, grow}
+use Rattle.evidence.specs.Distinct.{Covered, covered-length}
+use Rattle.evidence.specs.Passes.{Transfers, forth, back, Joined, joined}
 use Rattle.evidence.specs.Infer.{Settled, settled-distinct}
 use Rattle.evidence.specs.Chains.{Chain, start, along, settled-sound, complete, chain-account}
 use Rattle.evidence.specs.Sorted.{same-accounts}

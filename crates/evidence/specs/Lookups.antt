@@ -1,19 +1,19 @@
 -- For a program that knows what a search finds for each key: what it finds after one piece of evidence, one transfer, and in the final table. Assumes nothing.
-use mathlib.Core.Path.{_≡_, refl, sym, _∙_, ap}
+use mathlib.Core.Path.{_≡_, refl, _∙_, ap}
 use mathlib.Core.Logic.{_≢_, by-cases, ⊎-elim}
-use mathlib.Core.Bool.{Bool, true, false, cond, _||_, or-true}
+use mathlib.Core.Bool.{Bool, true, false, cond, _||_}
 use mathlib.Core.Option.{Option, none, some}
 use Prim.Native.Nat.{suc}
 use lib.ListN.{length}
 use Rattle.wire.specs.Same.{same, same-eq, same-ne}
 use Rattle.ids.specs.Keys.{Key, zeroKey}
 use Rattle.evidence.specs.Keys.{isZero, key?}
-use Rattle.evidence.specs.Table.{Row, Table, add, lookup, Has, has-here, has-there, Lacks, Found, at, nowhere, found, has-lookup, lacks-lookup, lookup-has, lookup-lacks, has-add, has-new, has-not-lacks, has-one, lacks-add}
+use Rattle.evidence.specs.Table.{Row, Table, add, lookup, Has, has-here, has-there, Found, at, nowhere, found, has-lookup, lacks-lookup, lookup-has, lookup-lacks, has-add, has-new, has-not-lacks, has-one, lacks-add}
 use Rattle.evidence.specs.Evidence.{Evidence, put, note}
-use Rattle.evidence.specs.Recording.{put-same, put-clash, put-new, put-other, put-other-lacks, note-account, note-mint, note-valid, note-cases}
+use Rattle.evidence.specs.Recording.{put-same, put-clash, put-new, put-other, put-other-lacks, note-valid, note-cases}
 use Rattle.evidence.specs.Distinct.{Distinct}
 use Rattle.evidence.specs.Passes.{Transfers, fill, spread, step, length-add}
-use Rattle.evidence.specs.Infer.{Settled, settled-distinct}
+use Rattle.evidence.specs.Infer.{Settled}
 use Rattle.evidence.specs.Chains.{chain-account, rowed}
 use Rattle.evidence.specs.Final.{final, final-gives, gives-final}
 

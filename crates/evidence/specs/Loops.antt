@@ -1,10 +1,10 @@
 -- For the loops of a program: the state after some items more, passes counted one by one, and marks transfer by transfer. Assumes nothing.
 use mathlib.Core.Path.{_≡_, refl, sym, _∙_, ap}
 use mathlib.Core.Logic.{_≢_}
-use mathlib.Core.Bool.{Bool, true, false, cond, _&&_, _||_, and-false, or-true}
+use mathlib.Core.Bool.{Bool, true, false, cond, _||_, and-false, or-true}
 use mathlib.Core.Option.{Option, none, some}
 use mathlib.Core.List.{List, [], _∷_, _++_, append-assoc, append-nil}
-use Prim.Native.Nat.{ℕ, zero, suc, _+_, _-_, _≤_, _<_}
+use Prim.Native.Nat.{ℕ, suc, _+_, _-_, _<_}
 use native.Mathlib.Omega.{arith}
 use lib.ListN.{length, take, getD}
 use lib.Seq.{take-suc}
@@ -18,7 +18,7 @@ use Rattle.evidence.specs.Run.{Outcome, counted, run}
 use Rattle.evidence.specs.Infer.{passes, runFrom, infer}
 use Rattle.evidence.specs.Gather.{gather}
 use Rattle.evidence.specs.Marks.{absent, differ, opposes, opposed, markOf}
-use Rattle.evidence.specs.MintTable.{Answer, mintTable, finish, mints}
+use Rattle.evidence.specs.MintTable.{mintTable, finish, mints}
 
 -- the items of two lists, one after the other
 pub gather-append : {A : Type 0} (f : A → List Row) (l k : List A) → gather f (l ++ k) ≡ gather f l ++ gather f k

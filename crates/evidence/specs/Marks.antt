@@ -1,7 +1,7 @@
 -- How sure a mint is: the mark of a row of the final table. Assumes nothing.
 use mathlib.Core.Path.{_≡_, refl, sym, _∙_, ap, subst, Σ-path}
 use mathlib.Core.Logic.{_≢_, by-cases}
-use mathlib.Core.Bool.{Bool, true, false, cond, not, _&&_, _||_, or-true}
+use mathlib.Core.Bool.{Bool, true, false, cond, not, _&&_, _||_}
 use mathlib.Core.Option.{Option, none, some}
 use mathlib.Core.List.{[], _∷_, List·Memᴰ·head, List·Memᴰ·tail, List·Memᴰ·not-nil}
 use Prim.Native.Nat.{ℕ}
@@ -11,9 +11,9 @@ use Rattle.evidence.specs.Keys.{key?}
 use Rattle.evidence.specs.Table.{Row, Table, lookup, Has, Found, at, nowhere, found, has-one, has-not-lacks, SameMembers, same-sym}
 use Rattle.evidence.specs.Evidence.{Evidence, recorded, Free, One, Clash, free-map, one-map}
 use Rattle.evidence.specs.Recording.{has-one-recorded, clash-has, lacks-free}
-use Rattle.evidence.specs.Passes.{Transfers, Ends, forth, back, Joined, joined}
+use Rattle.evidence.specs.Passes.{Transfers, forth, back, Joined, joined}
 use Rattle.evidence.specs.Infer.{Settled, settled-distinct}
-use Rattle.evidence.specs.Chains.{along, chain-account, settled-sound, filled-chain}
+use Rattle.evidence.specs.Chains.{along, chain-account, settled-sound}
 use Rattle.evidence.specs.Final.{final, final-gives}
 use Rattle.evidence.specs.Independence.{Apart, same-agree, same-joined, joined-flip}
 

@@ -18,7 +18,7 @@ use Rattle.evidence.specs.Independence.{Apart, same-agree, same-room}
 use Rattle.evidence.specs.Gather.{gather, gather-same, append-same}
 use Rattle.evidence.specs.Bound.{Among, rows-bound, enough, same-among}
 use Rattle.evidence.specs.Marks.{Mark}
-use Rattle.evidence.specs.MintTable.{MintRow, Answer, mintTable, rowAccounts, finish, mints, same-table-accounts, same-table, table-right, table-there, table-kept, table-sure}
+use Rattle.evidence.specs.MintTable.{Answer, mintTable, rowAccounts, finish, mints, same-table-accounts, same-table, table-right, table-there, table-kept, table-sure}
 
 -- how an answer is made: from a table with all evidence, to which no transfer hands on another mint
 pub record Made (e : Evidence) (ps : Transfers) (x : Answer) : Type 0 where

@@ -1,8 +1,8 @@
 -- Tables sorted by their accounts. Assumes nothing.
-use mathlib.Core.Path.{_≡_, refl, sym, _∙_, ap, ap₂, subst}
+use mathlib.Core.Path.{_≡_, refl, sym, _∙_, ap, subst}
 use mathlib.Core.Logic.{_≢_, _⊎_, inl, inr, ⊎-map}
 use mathlib.Core.Bool.{Bool, true, false, cond}
-use mathlib.Core.List.{List, [], _∷_, List·Memᴰ, List·Memᴰ·head, List·Memᴰ·tail, List·Memᴰ·cases-cons, List·Memᴰ·not-nil, Memᴰ·cast, map, Memᴰ·map, Memᴰ·of-map}
+use mathlib.Core.List.{[], _∷_, List·Memᴰ, List·Memᴰ·head, List·Memᴰ·tail, List·Memᴰ·cases-cons, List·Memᴰ·not-nil, Memᴰ·cast, Memᴰ·map, Memᴰ·of-map}
 use Rattle.ids.specs.Keys.{Key}
 use Rattle.evidence.specs.Keys.{Below, below-irrefl, below-trans, Order, less, level, more, order, ltKey, ltKey-below, ltKey-above}
 use Rattle.evidence.specs.Table.{Row, Table, accounts, Lacks, lacks-nil, lacks-cons, row-of-has, SameMembers}

@@ -5,7 +5,7 @@ use mathlib.Core.Option.{some}
 use mathlib.Core.List.{List, List·Memᴰ, Memᴰ·map, Memᴰ·of-map, Memᴰ·cast}
 use Prim.Native.Nat.{ℕ}
 use Rattle.ids.specs.Keys.{Key, zeroKey}
-use Rattle.evidence.specs.Table.{Row, Table, lookup, has-lookup, lookup-has}
+use Rattle.evidence.specs.Table.{Table, lookup, has-lookup, lookup-has}
 use Rattle.evidence.specs.Distinct.{Distinct}
 use Rattle.evidence.specs.Passes.{Transfers}
 use Rattle.evidence.specs.Ascending.{Ascending, ascending-map, ascending-unique}
