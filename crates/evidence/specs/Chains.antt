@@ -70,14 +70,6 @@ module _ {e : Evidence} {ps : Transfers} where
       go (i, h, z) (inl (k, g)) = (k, g, λ q. has-not-lacks ((settled-sound s) .clear (rw q at g)) (free-lacks f))
       go (i, h, z) (inr l) = absurd (s .done .closed j (record { from = h; mint = z; source = chain-account c; target = n; fresh = l }))
 
-  -- a mint that is filled in is the mint at the start of a chain
-  pub filled-chain : {a m : Key} {t : Table} → Settled e ps t → Free e a → Has a m t → Chain e ps m a
-  filled-chain s f h = (settled-sound s) .chain h (λ q. has-not-lacks ((settled-sound s) .clear (rw q at h)) (free-lacks f))
-
-  -- an account with no recorded mint is filled in exactly when a chain reaches it
-  pub filled : {a : Key} {t : Table} → Settled e ps t → Free e a → ((m : Key) × Has a m t) ↔ ((m : Key) × Chain e ps m a)
-  filled s f = (λ h. (h .0, filled-chain s f (h .1)), λ c. let k = complete s (c .1) in (k .0, k .1))
-
   -- an account has a row, and needs room, exactly when two pieces of evidence for it differ or a chain reaches it
   pub rowed : {a : Key} {t : Table} → Settled e ps t → ((m : Key) × Has a m t) ↔ (Clash e a ⊎ ((m : Key) × Chain e ps m a))
   rowed {a} {t} s = (λ r. to r, λ w. ⊎-elim (λ c. (zeroKey, (settled-sound s) .kept (clash-has c))) (λ c. let k = complete s (c .1) in (k .0, k .1)) w)

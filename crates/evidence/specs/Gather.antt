@@ -19,9 +19,6 @@ perm-mem (List·Permᴰ·swap q p) (List·Memᴰ·tail (List·Memᴰ·head e)) =
 perm-mem (List·Permᴰ·swap q p) (List·Memᴰ·tail (List·Memᴰ·tail i)) = List·Memᴰ·tail (List·Memᴰ·tail i)
 perm-mem (List·Permᴰ·trans p r) i = perm-mem r (perm-mem p i)
 
-pub perm-same : {l l′ : List Row} → List·Permᴰ l l′ → SameMembers l l′
-perm-same p = record { to = λ i. perm-mem p i; from = λ i. perm-mem (Permᴰ·symm p) i }
-
 module _ {A : Type 0} (f : A → List Row) where
   -- a pair that is gathered is a pair of an item
   pub gather-mem : {x : Row} (l : List A) → List·Memᴰ x (gather f l) → (y : A) × List·Memᴰ y l × List·Memᴰ x (f y)

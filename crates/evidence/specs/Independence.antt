@@ -7,7 +7,7 @@ use Rattle.ids.specs.Keys.{Key, zeroKey}
 use Rattle.evidence.specs.Keys.{key?}
 use Rattle.evidence.specs.Table.{Table, accounts, lookup, Has, SameMembers, same-sym}
 use Rattle.evidence.specs.Evidence.{Evidence, recorded, Agree, Free, One, free-map, one-map, clash-map}
-use Rattle.evidence.specs.Recording.{recorded-lookup, one-has, clash-has, has-clash}
+use Rattle.evidence.specs.Recording.{recorded-lookup, clash-has, has-clash}
 use Rattle.evidence.specs.Distinct.{Covered, covered-length}
 use Rattle.evidence.specs.Passes.{Transfers, forth, back, Joined, joined}
 use Rattle.evidence.specs.Infer.{Settled, settled-distinct}
@@ -43,7 +43,7 @@ joined-flip (joined (back q) i) = joined (forth q) i
 pub record Apart (e : Evidence) (ps : Transfers) : Type 0 where
   pub apart : {a m k : Key} → Free e a → Chain e ps m a → Chain e ps k a → m ≡ k
 
--- no chain joins two accounts recorded with different mints; a transfer straight from one to the other is no matter
+-- no chain joins two accounts recorded with different mints; a transfer straight from one to the other is no matter, so this is the weakest reading
 pub record Unjoined (e : Evidence) (ps : Transfers) : Type 0 where
   pub unjoined : {a b m k : Key} → Chain e ps m a → Free e a → Joined ps a b → One e b k → m ≡ k
 
@@ -81,10 +81,6 @@ module _ {e e′ : Evidence} {ps ps′ : Transfers} {t t′ : Table} (se : SameM
   -- an account with a mint in one has a mint in the other
   pub mint-there : {a m : Key} → Has a m t → m ≢ zeroKey → (k : Key) × Has a k t′ × (k ≢ zeroKey)
   mint-there h n = complete s′ (same-chain se sp ((settled-sound s) .chain h n))
-
-  -- a recorded mint is in both
-  pub one-there : {a m : Key} → One e a m → Has a m t × Has a m t′
-  one-there {a} o = ((settled-sound s) .kept (one-has o), (settled-sound s′) .kept (one-has (one-map (same-agree se a) o)))
 
   -- an ambiguous account of one is ambiguous in the other
   pub clash-there : {a : Key} → Has a zeroKey t → Has a zeroKey t′

@@ -1,7 +1,6 @@
--- For the loops of a program: the state after some items more, passes counted one by one, and marks transfer by transfer. Assumes nothing.
+-- For the loops of a program: the state after some items more, and passes counted one by one. Assumes nothing.
 use mathlib.Core.Path.{_≡_, refl, sym, _∙_, ap}
 use mathlib.Core.Logic.{_≢_}
-use mathlib.Core.Bool.{Bool, true, false, cond, _||_, and-false, or-true}
 use mathlib.Core.Option.{Option, none, some}
 use mathlib.Core.List.{List, [], _∷_, _++_, append-assoc, append-nil}
 use Prim.Native.Nat.{ℕ, suc, _+_, _-_, _<_}
@@ -9,15 +8,12 @@ use native.Mathlib.Omega.{arith}
 use lib.ListN.{length, take, getD}
 use lib.Seq.{take-suc}
 use borrow.Author.Tests.{eq-eqb, ne-eqb}
-use Rattle.wire.specs.Same.{same, same-eq, same-ne}
-use Rattle.ids.specs.Keys.{Key}
-use Rattle.evidence.specs.Table.{Row, Table, lookup}
+use Rattle.evidence.specs.Table.{Row, Table}
 use Rattle.evidence.specs.Evidence.{Evidence, note, noteAll, recorded}
 use Rattle.evidence.specs.Passes.{Transfers, step, pass}
 use Rattle.evidence.specs.Run.{Outcome, counted, run}
 use Rattle.evidence.specs.Infer.{passes, runFrom, infer}
 use Rattle.evidence.specs.Gather.{gather}
-use Rattle.evidence.specs.Marks.{absent, differ, opposes, opposed, markOf}
 use Rattle.evidence.specs.MintTable.{mintTable, finish, mints}
 
 -- the items of two lists, one after the other
@@ -37,46 +33,14 @@ unfolding noteAll
 noteAll-append t [] e = refl
 noteAll-append t (x ∷ d) e = noteAll-append (note t x) d e
 
+pub recorded-append : (d e : Evidence) → recorded (d ++ e) ≡ noteAll (recorded d) e
+unfolding recorded
+recorded-append d e = noteAll-append [] d e
+
 pub pass-append : (t : Table) (ps qs : Transfers) → pass t (ps ++ qs) ≡ pass (pass t ps) qs
 unfolding pass
 pass-append t [] qs = refl
 pass-append t (p ∷ ps) qs = pass-append (step t p) ps qs
-
-pub opposed-append : (t : Table) (ps qs : Transfers) (a : Key) → opposed t (ps ++ qs) a ≡ (opposed t ps a || opposed t qs a)
-unfolding opposed
-opposed-append t [] qs a = refl
-opposed-append t (p ∷ ps) qs a = rw (opposed-append t ps qs a) (go (opposes t a p))
-  where
-    go : (b : Bool) → (b || (opposed t ps a || opposed t qs a)) ≡ ((b || opposed t ps a) || opposed t qs a)
-    go true = refl
-    go false = refl
-
--- a transfer between equal mints, or to an account with none, opposes nobody
-pub opposes-none : (t : Table) (a : Key) (p : Row) → differ (lookup t (p .0)) (lookup t (p .1)) ≡ false → opposes t a p ≡ false
-unfolding opposes
-opposes-none t a p q = rw (q, and-false)
-
--- one between different mints opposes its two ends alone
-pub opposes-source : (t : Table) (p : Row) → differ (lookup t (p .0)) (lookup t (p .1)) ≡ true → opposes t (p .0) p ≡ true
-unfolding opposes
-opposes-source t p q = rw (q, same-eq {a = p .0} refl)
-
-pub opposes-target : (t : Table) (p : Row) → differ (lookup t (p .0)) (lookup t (p .1)) ≡ true → opposes t (p .1) p ≡ true
-unfolding opposes
-opposes-target t p q = rw (q, same-eq {a = p .1} refl, or-true (same (p .1) (p .0)))
-
-pub opposes-other : (t : Table) {a : Key} (p : Row) → a ≢ p .0 → a ≢ p .1 → opposes t a p ≡ false
-unfolding opposes
-opposes-other t p n d = rw (same-ne n, same-ne d)
-
--- the mark by what is recorded
-pub mark-zero : (r : Table) (ps : Transfers) (t : Table) (a m : Key) → lookup r a ≡ some m → markOf r ps t a ≡ 0
-unfolding markOf absent
-mark-zero r ps t a m q = rw q
-
-pub mark-filled : (r : Table) (ps : Transfers) (t : Table) (a : Key) → lookup r a ≡ none → markOf r ps t a ≡ cond (opposed t ps a) 2 1
-unfolding markOf absent
-mark-filled r ps t a q = rw q
 
 -- k passes more
 unfoldable pub plus : ℕ → Option Outcome → Option Outcome

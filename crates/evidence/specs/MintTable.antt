@@ -10,11 +10,12 @@ use Rattle.ids.specs.Keys.{Key}
 use Rattle.evidence.specs.Table.{Row, Table, accounts, lookup, Has, row-of-has, SameMembers}
 use Rattle.evidence.specs.Evidence.{Evidence, recorded, One, Free}
 use Rattle.evidence.specs.Recording.{one-has, one-not-zero}
-use Rattle.evidence.specs.Distinct.{row-has}
+use Rattle.evidence.specs.Distinct.{Distinct, row-has}
 use Rattle.evidence.specs.Passes.{Transfers}
 use Rattle.evidence.specs.Run.{Outcome}
 use Rattle.evidence.specs.Infer.{infer, Settled, settled-distinct}
 use Rattle.evidence.specs.Chains.{Chain, settled-sound, complete}
+use Rattle.evidence.specs.Ascending.{Ascending, ascending-map}
 use Rattle.evidence.specs.Sorted.{sorted-distinct}
 use Rattle.evidence.specs.Final.{final, final-sorted, final-gives, gives-final}
 use Rattle.evidence.specs.Independence.{Apart, same-final, same-final-accounts}
@@ -51,6 +52,11 @@ mints f e ps = finish (recorded e) ps (infer f e ps)
 unfoldable pub mintIn : List MintRow → Key → Option Key
 mintIn [] a = none
 mintIn (r ∷ l) a = cond (same a (r .0)) (some (r .1)) (mintIn l a)
+
+-- the rows ascend by account
+pub table-ascending : (r : Table) (ps : Transfers) {t : Table} → Distinct t → Ascending (λ x. x .0) (mintTable r ps t)
+unfolding mintTable
+table-ascending r ps {t} d = ascending-map (withMark r ps (final t)) (λ x. x .0) (final-sorted d)
 
 -- the accounts of the rows
 abbrev pub rowAccounts : List MintRow → List Key

@@ -11,14 +11,15 @@ use Rattle.evidence.specs.Table.{Table, SameMembers}
 use Rattle.evidence.specs.Evidence.{Evidence, recorded, One, Free, one-map}
 use Rattle.evidence.specs.Passes.{Transfers}
 use Rattle.evidence.specs.Run.{Outcome}
-use Rattle.evidence.specs.Infer.{infer, Settled, infer-settled, infer-passes, infer-none}
+use Rattle.evidence.specs.Infer.{infer, Settled, infer-settled, infer-passes, infer-none, settled-distinct}
 use Rattle.evidence.specs.Chains.{Chain}
+use Rattle.evidence.specs.Ascending.{Ascending}
 use Rattle.evidence.specs.Final.{final}
 use Rattle.evidence.specs.Independence.{Apart, same-agree, same-room}
 use Rattle.evidence.specs.Gather.{gather, gather-same, append-same}
 use Rattle.evidence.specs.Bound.{Among, rows-bound, enough, same-among}
 use Rattle.evidence.specs.Marks.{Mark}
-use Rattle.evidence.specs.MintTable.{Answer, mintTable, rowAccounts, finish, mints, same-table-accounts, same-table, table-right, table-there, table-kept, table-sure}
+use Rattle.evidence.specs.MintTable.{Answer, mintTable, rowAccounts, finish, mints, table-ascending, same-table-accounts, same-table, table-right, table-there, table-kept, table-sure}
 
 -- how an answer is made: from a table with all evidence, to which no transfer hands on another mint
 pub record Made (e : Evidence) (ps : Transfers) (x : Answer) : Type 0 where
@@ -66,9 +67,13 @@ module _ {e : Evidence} {ps : Transfers} {x : Answer} (y : Made e ps x) where
   pub row-right : {a m : Key} {n : ℕ} → List·Memᴰ (a, m, n) (x .rows) → Chain e ps m a × Mark e ps (final (y .table)) a n
   row-right i = table-right (y .settled) (rw (y .rows) at i)
 
-  -- every account that a chain reaches has a row
-  pub row-there : {a m : Key} → Chain e ps m a → (k : Key) × (n : ℕ) × List·Memᴰ (a, k, n) (x .rows)
-  row-there c = let k = table-there (y .settled) c in (k .0, _, rw (← (y .rows)) at (k .1))
+  -- an account has a row exactly when a chain reaches it
+  pub row-reached : {a : Key} → ((m : Key) × (n : ℕ) × List·Memᴰ (a, m, n) (x .rows)) ↔ ((m : Key) × Chain e ps m a)
+  row-reached = (λ r. (r .0, (row-right (r .2)) .0), λ c. let k = table-there (y .settled) (c .1) in (k .0, _, rw (← (y .rows)) at (k .1)))
+
+  -- T2. The rows ascend by account, with no account twice.
+  pub row-order : Ascending (λ r. r .0) (x .rows)
+  row-order = rw (y .rows) (table-ascending (recorded e) ps (settled-distinct (y .settled)))
 
   -- one recorded mint is kept
   pub row-kept : {a m : Key} → One e a m → List·Memᴰ (a, m, 0) (x .rows)

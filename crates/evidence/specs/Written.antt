@@ -8,10 +8,10 @@ use Rattle.ids.specs.Keys.{Key, zeroKey}
 use Rattle.evidence.specs.Table.{Table, lookup, has-lookup, lookup-has}
 use Rattle.evidence.specs.Distinct.{Distinct}
 use Rattle.evidence.specs.Passes.{Transfers}
-use Rattle.evidence.specs.Ascending.{Ascending, ascending-map, ascending-unique}
-use Rattle.evidence.specs.Final.{final, final-sorted, final-has, has-final}
+use Rattle.evidence.specs.Ascending.{Ascending, ascending-unique}
+use Rattle.evidence.specs.Final.{final, final-has, has-final}
 use Rattle.evidence.specs.Marks.{markOf}
-use Rattle.evidence.specs.MintTable.{MintRow, withMark, mintTable}
+use Rattle.evidence.specs.MintTable.{MintRow, withMark, mintTable, table-ascending}
 
 -- l has a marked row for each mint that t gives, and no other: r what is recorded, t the table when the passes are over
 pub record Written (r : Table) (ps : Transfers) (t : Table) (l : List MintRow) : Type 0 where
@@ -21,7 +21,7 @@ pub record Written (r : Table) (ps : Transfers) (t : Table) (l : List MintRow) :
 -- such rows, ascending by account, are the mint table
 pub written : {r : Table} {ps : Transfers} {t : Table} {l : List MintRow} → Distinct t → Ascending (λ x. x .0) l → Written r ps t l → l ≡ mintTable r ps t
 unfolding mintTable
-written {r} {ps} {t} {l} d s w = ascending-unique s (ascending-map (withMark r ps (final t)) (λ x. x .0) (final-sorted d)) (record { to = λ i. to i; from = λ i. from i })
+written {r} {ps} {t} {l} d s w = ascending-unique s (table-ascending r ps d) (record { to = λ i. to i; from = λ i. from i })
   where
     to : {x : MintRow} → List·Memᴰ x l → List·Memᴰ x (mintTable r ps t)
     to {x} i =
