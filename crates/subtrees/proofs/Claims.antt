@@ -9,7 +9,7 @@ use native.Mathlib.Omega.{arith}
 use lib.ListN.{length, getD}
 use Rattle.pack.specs.Invocation.{Position}
 use Rattle.subtrees.specs.Blocks.{sumIn, size}
-use Rattle.subtrees.specs.Subtrees.{within, transfer, swap, bits, endOf, insideOf, testsOf, insidesOf, Subtrees}
+use Rattle.subtrees.specs.Subtrees.{within, hasTransfer, hasSwap, bits, endOf, insideOf, testsOf, insidesOf, Subtrees}
 use Rattle.subtrees.proofs.Transitive.{within-trans}
 use Rattle.subtrees.proofs.Blocks as blocks
 use Rattle.subtrees.proofs.Ranges.{any-same}
@@ -44,8 +44,8 @@ module _ (ps : List Position) where
       let w = end-after i l in
       let m = size (length ps) (within ps) i in
       ap₂ bits
-      (any-same (λ y. transfer (getD a y 0)) (λ y. transfer (getD b y 0)) m (i + 1) (λ y p q. rw (h y (omega arith))))
-      (any-same (λ y. swap (getD a y 0)) (λ y. swap (getD b y 0)) m (i + 1) (λ y p q. rw (h y (omega arith))))
+      (any-same (λ y. hasTransfer (getD a y 0)) (λ y. hasTransfer (getD b y 0)) m (i + 1) (λ y p q. rw (h y (omega arith))))
+      (any-same (λ y. hasSwap (getD a y 0)) (λ y. hasSwap (getD b y 0)) m (i + 1) (λ y p q. rw (h y (omega arith))))
 
   pub insides-same : (a b : List ℕ) → ((y : ℕ) → y < length ps → getD a y 0 ≡ getD b y 0) → insidesOf ps a ≡ insidesOf ps b
   insides-same a b h = tab-same (insideOf ps a) (insideOf ps b) 0 (length ps) (λ i p q. inside-same a b h i (omega arith))

@@ -7,24 +7,24 @@ use Prim.Native.Nat.{ℕ, suc, _+_}
 use native.Mathlib.Omega.{arith}
 use lib.ListN.{getD}
 use Rattle.subtrees.specs.Blocks.{anyIn}
-use Rattle.subtrees.specs.Subtrees.{transfer, swap, bits, joined}
+use Rattle.subtrees.specs.Subtrees.{hasTransfer, hasSwap, bits, joined}
 use Rattle.subtrees.proofs.Ranges.{any-parts}
 
 -- the bits of the m invocations from `at` on
 unfoldable pub bitsIn : List ℕ → ℕ → ℕ → ℕ
-bitsIn own m at = bits (anyIn (λ y. transfer (getD own y 0)) m at) (anyIn (λ y. swap (getD own y 0)) m at)
+bitsIn own m at = bits (anyIn (λ y. hasTransfer (getD own y 0)) m at) (anyIn (λ y. hasSwap (getD own y 0)) m at)
 
 pub bits-none : (own : List ℕ) (at : ℕ) → 0 ≡ bitsIn own 0 at
 unfolding bitsIn anyIn
 bits-none own at = refl
 
-transfer-bits : (t s : Bool) → transfer (bits t s) ≡ t
+transfer-bits : (t s : Bool) → hasTransfer (bits t s) ≡ t
 transfer-bits true true = refl
 transfer-bits true false = refl
 transfer-bits false true = refl
 transfer-bits false false = refl
 
-swap-bits : (t s : Bool) → swap (bits t s) ≡ s
+swap-bits : (t s : Bool) → hasSwap (bits t s) ≡ s
 swap-bits true true = refl
 swap-bits true false = refl
 swap-bits false true = refl
@@ -40,4 +40,4 @@ any-three f m k a e p =
 pub bits-jump : (own : List ℕ) (m k a e : ℕ) → a + m ≡ e
     → joined (bitsIn own m a) (joined (getD own e 0) (bitsIn own k (e + 1))) ≡ bitsIn own (m + suc k) a
 unfolding joined bitsIn
-bits-jump own m k a e p = simp (transfer-bits, swap-bits, any-three (λ y. transfer (getD own y 0)) m k a e p, any-three (λ y. swap (getD own y 0)) m k a e p)
+bits-jump own m k a e p = simp (transfer-bits, swap-bits, any-three (λ y. hasTransfer (getD own y 0)) m k a e p, any-three (λ y. hasSwap (getD own y 0)) m k a e p)

@@ -33,11 +33,11 @@ endOf ps i = endAt (length ps) (within ps) i
 abbrev pub odd : ℕ → Bool
 odd b = eqb (b % 2) 1
 
-abbrev pub transfer : ℕ → Bool
-transfer b = odd b
+abbrev pub hasTransfer : ℕ → Bool
+hasTransfer b = odd b
 
-abbrev pub swap : ℕ → Bool
-swap b = odd (b / 2)
+abbrev pub hasSwap : ℕ → Bool
+hasSwap b = odd (b / 2)
 
 -- the byte of two bits
 abbrev pub bits : Bool → Bool → ℕ
@@ -45,12 +45,12 @@ bits t s = cond t 1 0 + cond s 2 0
 
 -- the bits of two bytes together
 unfoldable pub joined : ℕ → ℕ → ℕ
-joined a b = bits (transfer a || transfer b) (swap a || swap b)
+joined a b = bits (hasTransfer a || hasTransfer b) (hasSwap a || hasSwap b)
 
 -- the inside bits of invocation i: some member of its block has a transfer, some has a swap, by each invocation's own bits
 unfoldable pub insideOf : List Position → List ℕ → ℕ → ℕ
 insideOf ps own i =
-    bits (someIn (length ps) (within ps) i (λ y. transfer (getD own y 0))) (someIn (length ps) (within ps) i (λ y. swap (getD own y 0)))
+    bits (someIn (length ps) (within ps) i (λ y. hasTransfer (getD own y 0))) (someIn (length ps) (within ps) i (λ y. hasSwap (getD own y 0)))
 
 -- the ends of all invocations, their inside bits, and the calls of `descendant` for all of them
 abbrev pub endsOf : List Position → List ℕ

@@ -11,10 +11,10 @@ ghost use Rattle.subtrees.specs.Descendant.{descendant};
 ghost use Rattle.subtrees.specs.Subtrees.{positionOf, positions, taken, odd, joined, Known, Stepped, Subtrees};
 
 // What one step finds: the end of an invocation, the bits inside its block, and how often it called `descendant`.
-pub struct Subtree {
-    pub end: u32,
-    pub inside: u8,
-    pub tests: u32,
+struct Subtree {
+    end: u32,
+    inside: u8,
+    tests: u32,
 }
 
 // Whether the position of co, ci, ch is a descendant of that of po, pi, ph: outer index; inner index and height, 0 where there is none, else one more than it is.

@@ -1,10 +1,14 @@
 use Rattle.subtrees.proofs.Walk.{Walk, walk-first, walk-jump, walk-stop, walk-out}
 use Rattle.subtrees.proofs.Arrays.{positions-length, within-at, known-end}
-use Rattle.subtrees.specs.Subtrees.{positions}
+use Rattle.subtrees.specs.Subtrees.{positions, within, joined, endOf, insideOf}
 use borrow.Author.Tests.{not-true, not-false}
-use lib.ListN.{length}
+use Rattle.subtrees.specs.Descendant.{descendant}
+use Rattle.pack.specs.Invocation.{Position, positionAt}
+use lib.ListN.{length, getD}
+use mathlib.Core.Bool.{Bool}
+use mathlib.Core.List.{List}
 use mathlib.Core.Path.{_≡_, _∙_}
-use Prim.Native.Nat.{_+_, _-_, _≤_}
+use Prim.Native.Nat.{ℕ, _<_, _+_, _-_, _≤_}
 use native.Mathlib.Omega.{arith}
 use Rattle.subtrees.proofs.step.Statement.{statement}
 use Rattle.subtrees.proofs.step.Tie as tie
@@ -15,6 +19,24 @@ Inv-loop n outer inner height own ends inside i e₀ bits₀ tests₀ e bits tes
 
 abbrev μ-loop : tie.MeasureT-loop
 μ-loop n outer inner height own ends inside i e₀ bits₀ tests₀ e bits tests = n - e
+
+-- the positions that the arrays hold, and how many they are
+abbrev list : tie.Start Inv-loop μ-loop → List Position
+list s = positions (s .args .outer .now) (s .args .inner .now) (s .args .height .now) (s .args .n)
+
+count : (s : tie.Start Inv-loop μ-loop) → length (list s) ≡ s .args .n
+count s = positions-length (s .args .outer .now) (s .args .inner .now) (s .args .height .now) (s .args .n)
+
+-- what a call of `descendant` says
+held : (s : tie.Start Inv-loop μ-loop) (e : ℕ) (r : Bool) → e < s .args .n
+    → r ≡ descendant (positionAt (s .args .outer .now) (s .args .inner .now) (s .args .height .now) (s .args .i)) (positionAt (s .args .outer .now) (s .args .inner .now) (s .args .height .now) e)
+    → within (list s) (s .args .i) e ≡ r
+held s e r l = within-at (s .args .outer .now) (s .args .inner .now) (s .args .height .now) (s .args .n) (s .args .i) e r (omega arith) l
+
+-- where the end of a later invocation lies
+reach : (s : tie.Start Inv-loop μ-loop) (e : ℕ) → s .args .i + 1 ≤ e → e < s .args .n → (e + 1 ≤ getD (s .args .ends .now) e 0) × (getD (s .args .ends .now) e 0 ≤ s .args .n)
+reach s e =
+    known-end (s .args .outer .now) (s .args .inner .now) (s .args .height .now) (s .args .n) (s .args .own .now) (s .args .ends .now) (s .args .inside .now) (s .args .i + 1) e (s .pre .1)
 
 -- src/lib.rt:78:17
 add-e : tie.Need-add-e Inv-loop μ-loop
@@ -40,11 +62,9 @@ cast-t14 c = omega arith
 returns : tie.Need-returns Inv-loop μ-loop
 returns c =
     let l = c .before .before .before .loop in
-    let a = c .before .before .before .before .args in
-    let ps = positions (a .outer .now) (a .inner .now) (a .height .now) (a .n) in
-    let len : length ps ≡ a .n = positions-length (a .outer .now) (a .inner .now) (a .height .now) (a .n) in
-    let held = within-at (a .outer .now) (a .inner .now) (a .height .now) (a .n) (a .i) (l .e) (c .before .within .result) (omega arith) (omega arith) (c .before .within .ensures) in
-    walk-stop ps (a .own .now) (a .i) (l .e) (l .bits) (l .tests) (omega arith) (omega arith) (held ∙ not-true _ (c .if1 .taken)) (l .inv .3)
+    let s = c .before .before .before .before in
+    let no = held s (l .e) (c .before .within .result) (omega arith) (c .before .within .ensures) ∙ not-true _ (c .if1 .taken) in
+    walk-stop (list s) (s .args .own .now) (s .args .i) (l .e) (l .bits) (l .tests) (omega (arith, count s)) (omega arith) no (l .inv .3)
 
 -- src/lib.rt:90:36
 element-copy-out-joined : tie.Need-element-copy-out-joined Inv-loop μ-loop
@@ -66,18 +86,14 @@ joined-requires-2 c κs = tt
 end-at-requires : tie.Need-end-at-requires Inv-loop μ-loop
 end-at-requires c κs =
     let l = c .before .before .before .before .before .before .before .loop in
-    let s = c .before .before .before .before .before .before .before .before in
-    let a = s .args in
-    let k = known-end (a .outer .now) (a .inner .now) (a .height .now) (a .n) (a .own .now) (a .ends .now) (a .inside .now) (a .i + 1) (l .e) (s .pre .1) (omega arith) (omega arith) in
+    let k = reach (c .before .before .before .before .before .before .before .before) (l .e) (omega arith) (omega arith) in
     (omega arith, omega arith)
 
 -- src/lib.rt:81:5
 loop-less : tie.Need-loop-less Inv-loop μ-loop
 loop-less c =
     let l = c .before .before .before .before .before .before .before .before .loop in
-    let s = c .before .before .before .before .before .before .before .before .before in
-    let a = s .args in
-    let k = known-end (a .outer .now) (a .inner .now) (a .height .now) (a .n) (a .own .now) (a .ends .now) (a .inside .now) (a .i + 1) (l .e) (s .pre .1) (omega arith) (omega arith) in
+    let k = reach (c .before .before .before .before .before .before .before .before .before) (l .e) (omega arith) (omega arith) in
     omega (arith, c .end-at .ensures)
 
 -- src/lib.rt:81:5
@@ -85,15 +101,16 @@ loop-again : tie.Need-loop-again Inv-loop μ-loop
 loop-again c =
     let l = c .before .before .before .before .before .before .before .before .loop in
     let s = c .before .before .before .before .before .before .before .before .before in
-    let a = s .args in
-    let k = known-end (a .outer .now) (a .inner .now) (a .height .now) (a .n) (a .own .now) (a .ends .now) (a .inside .now) (a .i + 1) (l .e) (s .pre .1) (omega arith) (omega arith) in
-    let ps = positions (a .outer .now) (a .inner .now) (a .height .now) (a .n) in
-    let len : length ps ≡ a .n = positions-length (a .outer .now) (a .inner .now) (a .height .now) (a .n) in
-    let r = s .pre .1 (l .e) (omega arith) (omega arith) in
+    let own = s .args .own .now in
     let t = c .before .before .before .before .before .before .within in
-    let held = within-at (a .outer .now) (a .inner .now) (a .height .now) (a .n) (a .i) (l .e) (t .result) (omega arith) (omega arith) (t .ensures) in
-    let w = walk-jump ps (a .own .now) (a .i) (l .e) (l .bits) (l .tests) (omega arith) (held ∙ not-false _ (c .before .before .before .before .before .if1 .left)) (l .inv .3) in
-    (omega (arith, c .end-at .ensures), omega (arith, c .end-at .ensures), omega (arith, c .end-at .ensures), rw (c .end-at .ensures, c .before .joined2 .ensures, c .before .before .joined .ensures, r .0, r .1) w)
+    let yes = held s (l .e) (t .result) (omega arith) (t .ensures) ∙ not-false _ (c .before .before .before .before .before .if1 .left) in
+    let w = walk-jump (list s) own (s .args .i) (l .e) (l .bits) (l .tests) (omega (arith, count s)) yes (l .inv .3) in
+    let r = s .pre .1 (l .e) (omega arith) (omega (arith, count s)) in
+    let k = reach s (l .e) (omega arith) (omega arith) in
+    let to : c .end-at .result ≡ endOf (list s) (l .e) = c .end-at .ensures ∙ r .0 in
+    let got : c .before .joined2 .result ≡ joined (l .bits) (joined (getD own (l .e) 0) (insideOf (list s) own (l .e))) =
+    c .before .joined2 .ensures ∙ rw (c .before .before .joined .ensures, r .1) in
+    (omega arith, omega arith, omega arith, rw (to, got) w)
 
 -- src/lib.rt:94:14
 cast-t22 : tie.Need-cast-t22 Inv-loop μ-loop
@@ -103,10 +120,8 @@ cast-t22 c = omega arith
 returns-2 : tie.Need-returns-2 Inv-loop μ-loop
 returns-2 c =
     let l = c .before .loop in
-    let a = c .before .before .args in
-    let ps = positions (a .outer .now) (a .inner .now) (a .height .now) (a .n) in
-    let len : length ps ≡ a .n = positions-length (a .outer .now) (a .inner .now) (a .height .now) (a .n) in
-    walk-out ps (a .own .now) (a .i) (l .e) (l .bits) (l .tests) (omega arith) (omega arith) (l .inv .3)
+    let s = c .before .before in
+    walk-out (list s) (s .args .own .now) (s .args .i) (l .e) (l .bits) (l .tests) (omega (arith, count s)) (omega arith) (l .inv .3)
 
 pub step-spec : {M : Type 1} → statement M
 step-spec =
