@@ -7,7 +7,7 @@ use Rattle.pack.specs.Invocation.{Position, positionAt}
 use lib.ListN.{length, getD}
 use mathlib.Core.Bool.{Bool}
 use mathlib.Core.List.{List}
-use mathlib.Core.Path.{_≡_, _∙_}
+use mathlib.Core.Path.{_≡_, ap, _∙_}
 use Prim.Native.Nat.{ℕ, _<_, _+_, _-_, _≤_}
 use native.Mathlib.Omega.{arith}
 use Rattle.subtrees.proofs.step.Statement.{statement}
@@ -109,7 +109,7 @@ loop-again c =
     let k = reach s (l .e) (omega arith) (omega arith) in
     let to : c .end-at .result ≡ endOf (list s) (l .e) = c .end-at .ensures ∙ r .0 in
     let got : c .before .joined2 .result ≡ joined (l .bits) (joined (getD own (l .e) 0) (insideOf (list s) own (l .e))) =
-    c .before .joined2 .ensures ∙ rw (c .before .before .joined .ensures, r .1) in
+    c .before .joined2 .ensures ∙ ap (joined (l .bits)) (c .before .before .joined .ensures ∙ ap (joined (getD own (l .e) 0)) (r .1)) in
     (omega arith, omega arith, omega arith, rw (to, got) w)
 
 -- src/lib.rt:94:14
