@@ -1,2 +1,4 @@
 pub mod Numbers
 pub mod Reading
+pub mod Said
+pub mod Laws

@@ -1,6 +1,6 @@
--- What an arm of a `match` on a program tells of the program's number.
+-- What the last arm of a `match` on a program tells of the program's number.
 -- Assumes nothing.
-use mathlib.Core.Path.{_≡_, refl, sym, _∙_, subst}
+use mathlib.Core.Path.{_≡_, refl, _∙_, subst}
 use mathlib.Core.Bool.{not}
 use mathlib.Core.List.{List, [], _∷_}
 use Prim.Native.Nat.{ℕ}
@@ -32,11 +32,7 @@ tag-number System = refl
 tag-number Other = refl
 tag-number Unresolved = refl
 
--- the arm of one case
-pub number-is : (id : Id) (k : ℕ) → tagOf the-type id ≡ k → numberOf id ≡ k
-number-is id k e = sym (tag-number id) ∙ e
-
--- the arm of the other cases
+-- it is none that has an arm of its own
 pub number-not : (id : Id) (ks : List ℕ) (k : ℕ) → OneOf ks (tagOf the-type id) → T (not (hasKey ks k)) → numberOf id ≡ k → ⊥
 number-not id ks k h t e = miss ks k t (subst (OneOf ks) (tag-number id ∙ e) h)
 

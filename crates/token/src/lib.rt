@@ -2,11 +2,14 @@
 //
 // Every function is total. An instruction is read once, into an enum of numbers; keys stay indexes until a row is written.
 ghost use mathlib.Core.Path.{_≡_};
-ghost use mathlib.Core.Bool.{_&&_};
+ghost use mathlib.Core.Bool.{_&&_, _||_};
 ghost use lib.Dec.{leb, eqb};
 ghost use lib.ListN.{length, getD};
-ghost use Rattle.token.specs.Programs.{isToken, isToken2022};
+ghost use Rattle.ids.specs.Keys.{keyOf};
+ghost use Rattle.token.specs.Programs.{isToken, isSpl, isToken2022};
 ghost use Rattle.token.specs.Tokens.{tokenOf};
+ghost use Rattle.token.specs.Transfers.{isZero, transfer as transferOf};
+ghost use Rattle.token.specs.Moved.{valueOf, feeless, movedBy};
 use ids::Id;
 
 pub enum Token {
@@ -108,4 +111,89 @@ pub fn parse(id: Id, accounts: usize, data: &[u8]) -> Token
         }
         _ => Token::Other,
     }
+}
+
+// The transfer that an instruction gives: index bytes of source and destination, amount, and the fee where it is known.
+pub enum Moved {
+    Nothing,
+    FeeUnknown(u8, u8, u64),
+    FeeKnown(u8, u8, u64, u64),
+}
+
+fn spl_token(id: Id) -> bool
+    ensures { λ r. ⌜ r ≡ isSpl id ⌝ }
+{
+    match id {
+        Id::SplToken => true,
+        _ => false,
+    }
+}
+
+// Whether the key of an index is missing or zero.
+fn missing(keys: &[u8], index: u8) -> bool
+    ensures { λ r. ⌜ r ≡ isZero (keyOf (now (keys .entry)) index) ⌝ }
+{
+    let blank = [0u8; 32];
+    let zero = [0u8; 32];
+    wire::equal(ids::key(keys, &blank, index as usize), &zero)
+}
+
+fn no_ends(keys: &[u8], source: u8, destination: u8) -> bool
+    ensures { λ r. ⌜ r ≡ (isZero (keyOf (now (keys .entry)) source) || isZero (keyOf (now (keys .entry)) destination)) ⌝ }
+{
+    missing(keys, source) || missing(keys, destination)
+}
+
+fn no_checked_ends(keys: &[u8], source: u8, destination: u8, mint: u8) -> bool
+    ensures { λ r. ⌜ r ≡ (isZero (keyOf (now (keys .entry)) source) || isZero (keyOf (now (keys .entry)) destination) || isZero (keyOf (now (keys .entry)) mint)) ⌝ }
+{
+    no_ends(keys, source, destination) || missing(keys, mint)
+}
+
+fn without_fee(id: Id, source: u8, destination: u8, amount: u64) -> Moved
+    ensures { λ r. ⌜ r ≡ feeless id source destination amount ⌝ }
+{
+    if spl_token(id) {
+        Moved::FeeKnown(source, destination, amount, 0)
+    } else {
+        Moved::FeeUnknown(source, destination, amount)
+    }
+}
+
+// The transfer of an instruction that is read.
+fn moved_by(token: Token, id: Id, keys: &[u8], accounts: &[u8]) -> Moved
+    ensures { λ r. ⌜ r ≡ movedBy (keyOf (now (keys .entry))) id (now (accounts .entry)) token ⌝ }
+{
+    let first = wire::byte(accounts, 0);
+    let second = wire::byte(accounts, 1);
+    let third = wire::byte(accounts, 2);
+    match token {
+        Token::Plain(amount) => {
+            if no_ends(keys, first, second) {
+                return Moved::Nothing;
+            }
+            without_fee(id, first, second, amount)
+        }
+        Token::Checked(amount) => {
+            if no_checked_ends(keys, first, third, second) {
+                return Moved::Nothing;
+            }
+            without_fee(id, first, third, amount)
+        }
+        Token::WithFee(amount, fee) => {
+            if no_checked_ends(keys, first, third, second) {
+                return Moved::Nothing;
+            }
+            Moved::FeeKnown(first, third, amount, fee)
+        }
+        Token::Other => Moved::Nothing,
+        Token::Initialise => Moved::Nothing,
+    }
+}
+
+// The transfer that an instruction gives.
+pub fn transfer(id: Id, keys: &[u8], accounts: &[u8], data: &[u8]) -> Moved
+    ensures { λ r. ⌜ (r ≡ movedBy (keyOf (now (keys .entry))) id (now (accounts .entry)) (tokenOf id (length (now (accounts .entry))) (now («data» .entry)))) × (valueOf (keyOf (now (keys .entry))) r ≡ transferOf (keyOf (now (keys .entry))) id (now (accounts .entry)) (now («data» .entry))) ⌝ }
+{
+    moved_by(parse(id, accounts.len(), data), id, keys, accounts)
 }

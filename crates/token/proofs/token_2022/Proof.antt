@@ -1,4 +1,4 @@
-use Rattle.token.proofs.Numbers.{number-is, number-not, others}
+use Rattle.token.proofs.Numbers.{number-not, others}
 use Rattle.token.specs.Programs.{isToken2022}
 use borrow.Author.Tests.{ne-eqb}
 use mathlib.Core.List.{_∷_}
@@ -16,7 +16,7 @@ enum-told c = search needs
 -- src/lib.rt:31:1
 returns : tie.Need-returns
 unfolding isToken2022
-returns c = rw (number-is (c .before .before .args .id) 1 (c .before .match .keys1))
+returns c = rw (c .enum-told .given .1)
 
 -- src/lib.rt:31:1
 returns-2 : tie.Need-returns-2

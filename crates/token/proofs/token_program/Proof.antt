@@ -1,4 +1,4 @@
-use Rattle.token.proofs.Numbers.{number-is, number-not, others}
+use Rattle.token.proofs.Numbers.{number-not, others}
 use Rattle.token.specs.Programs.{isToken}
 use borrow.Author.Tests.{le-ltb}
 use native.Mathlib.Omega.{arith}
@@ -21,12 +21,12 @@ enum-told-2 c = search needs
 -- src/lib.rt:21:1
 returns : tie.Need-returns
 unfolding isToken
-returns c = rw (number-is (c .before .before .args .id) 0 (c .before .match .keys1))
+returns c = rw (c .enum-told .given .1)
 
 -- src/lib.rt:21:1
 returns-2 : tie.Need-returns-2
 unfolding isToken
-returns-2 c = rw (number-is (c .before .before .args .id) 1 (c .before .match .keys2))
+returns-2 c = rw (c .enum-told2 .given .1)
 
 -- src/lib.rt:21:1
 returns-3 : tie.Need-returns-3
