@@ -2,3 +2,4 @@ pub mod Numbers
 pub mod Reading
 pub mod Said
 pub mod Laws
+pub mod Rows
