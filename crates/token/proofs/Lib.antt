@@ -1,0 +1,5 @@
+pub mod Numbers
+pub mod Reading
+pub mod Said
+pub mod Laws
+pub mod Rows
