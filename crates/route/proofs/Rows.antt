@@ -10,7 +10,8 @@ use native.Mathlib.Omega.{arith}
 use lib.ListN.{length, set, length-append}
 use Rattle.wire.specs.Sets.{sets-next}
 use lib.Seq.{sets}
-use Rattle.route.specs.Lay.{tab, rowsOf, placed}
+use Rattle.subtrees.specs.Subtrees.{tab}
+use Rattle.route.specs.Lay.{rowsOf, placed}
 
 -- one number more
 pub tab-snoc : {A : Type 0} (f : ℕ → A) (i n : ℕ) → tab f i (suc n) ≡ tab f i n ++ (f (i + n) ∷ [])

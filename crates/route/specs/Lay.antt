@@ -1,13 +1,9 @@
 -- Rows of a table: made item by item, placed one after the other.
 -- Assumes nothing.
-use Prim.Native.Nat.{ℕ, zero, suc, _*_}
+use Prim.Native.Nat.{ℕ, suc, _*_}
 use mathlib.Core.List.{List, [], _∷_, _++_}
 use lib.Seq.{sets}
 use Rattle.wire.specs.Zeros.{zeros}
-
-unfoldable pub tab : {A : Type 0} → (ℕ → A) → ℕ → ℕ → List A
-tab f i zero = []
-tab f i (suc n) = f i ∷ tab f (suc i) n
 
 -- the rows that f gives each item, the items numbered from i on
 unfoldable pub rowsOf : {A : Type 0} → (ℕ → A → List (List ℕ)) → ℕ → List A → List (List ℕ)

@@ -2,3 +2,4 @@ pub mod Lay
 pub mod Row
 pub mod Program
 pub mod Arrays
+pub mod Mints

@@ -6,7 +6,8 @@ ghost use lib.ListN.{getD};
 ghost use lib.Seq.{sets};
 ghost use Rattle.pack.specs.Invocation.{lowered, positionAt};
 ghost use Rattle.route.specs.Arrays.{ownBits, bitsAt, rowAt};
-ghost use Rattle.route.specs.Lay.{tab, placed};
+ghost use Rattle.subtrees.specs.Subtrees.{tab};
+ghost use Rattle.route.specs.Lay.{placed};
 ghost use Rattle.route.specs.Program.{programBits};
 ghost use Rattle.route.specs.Row.{flagged as flaggedOf, invocationRow};
 

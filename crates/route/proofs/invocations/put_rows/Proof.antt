@@ -1,5 +1,6 @@
 use Rattle.route.specs.Arrays.{rowAt}
-use Rattle.route.specs.Lay.{tab, placed}
+use Rattle.subtrees.specs.Subtrees.{tab}
+use Rattle.route.specs.Lay.{placed}
 use Rattle.route.proofs.Rows.{placed-more}
 use Rattle.pack.specs.Invocation.{positionAt}
 use lib.ListN.{length}
