@@ -1,6 +1,6 @@
 -- Which program a key is. Each case of `Id` but the last three has one row in the table of ids.
 -- Assumes nothing.
-use Prim.Native.Nat.{ℕ, zero, suc, _+_, _*_}
+use Prim.Native.Nat.{ℕ, zero, suc, _*_}
 use mathlib.Core.List.{List}
 use mathlib.Core.Bool.{cond, _&&_}
 use lib.Dec.{ltb, eqb}

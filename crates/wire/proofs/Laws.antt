@@ -1,12 +1,12 @@
 -- Laws of `le` and `leBytes`, over the width n, and what a copied run leaves.
 -- Assumes nothing.
-use mathlib.Core.Path.{_≡_, refl, sym, ap, _∙_}
-use mathlib.Core.List.{List, [], _∷_, _++_, append-nil}
+use mathlib.Core.Path.{_≡_, refl, ap}
+use mathlib.Core.List.{List, _++_, append-nil}
 use Prim.Native.Nat.{ℕ, zero, suc, _+_, _*_, _/_, _%_, _^_, _≤_, _<_}
-use native.Mathlib.Nat.{add-zero, add-suc, add-assoc, zero-mul, add-mul, mul-assoc, mul-comm, pow-suc, pow-succ', zero-add, suc-add, div-one, div-div-eq-div-mul, mod-lt, one-le-pow, mul-div-cancel}
+use native.Mathlib.Nat.{add-zero, add-suc, add-assoc, zero-mul, add-mul, mul-assoc, mul-comm, pow-suc, pow-succ', zero-add, suc-add, div-one, div-div-eq-div-mul, one-le-pow}
 use native.Mathlib.Omega.{arith}
 use lib.ListN.{length, getD, take, drop, drop-of-length-le, length-drop, length-take, List·getD-eq-default}
-use lib.Seq.{sets, length-take-le, take-length}
+use lib.Seq.{sets, take-length}
 use Rattle.wire.specs.Sets.{sets-part}
 use lib.Pow.{pow-add}
 use lib.Arith.{digits-lt, digits-div, digits-mod, mod-mul}

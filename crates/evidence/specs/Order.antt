@@ -1,0 +1,136 @@
+-- The theorem of order: the mint table of the same evidence and the same plain transfers, in any order. Assumes nothing.
+use mathlib.Core.Path.{_≡_, refl, sym, _∙_, ap}
+use mathlib.Core.Logic.{_↔_}
+use mathlib.Core.Option.{Option, none, some, Option·none-ne-some, Option·some-injective}
+use mathlib.Core.List.{List, [], _++_, List·Permᴰ, List·Memᴰ}
+use Prim.Native.Nat.{ℕ, _≤_}
+use native.Mathlib.Omega.{arith}
+use lib.ListN.{length, length-map}
+use Rattle.ids.specs.Keys.{Key}
+use Rattle.evidence.specs.Table.{Table, SameMembers}
+use Rattle.evidence.specs.Evidence.{Evidence, recorded, One, Free, one-map}
+use Rattle.evidence.specs.Passes.{Transfers}
+use Rattle.evidence.specs.Run.{Outcome}
+use Rattle.evidence.specs.Infer.{infer, Settled, infer-settled, infer-passes, infer-none, settled-distinct}
+use Rattle.evidence.specs.Chains.{Chain}
+use Rattle.evidence.specs.Ascending.{Ascending}
+use Rattle.evidence.specs.Final.{final}
+use Rattle.evidence.specs.Independence.{Apart, same-agree, same-room}
+use Rattle.evidence.specs.Gather.{gather, gather-same, append-same}
+use Rattle.evidence.specs.Bound.{Among, rows-bound, enough, same-among}
+use Rattle.evidence.specs.Marks.{Mark}
+use Rattle.evidence.specs.MintTable.{Answer, mintTable, rowAccounts, finish, mints, table-ascending, same-table-accounts, same-table, table-right, table-there, table-kept, table-sure}
+
+-- how an answer is made: from a table with all evidence, to which no transfer hands on another mint
+pub record Made (e : Evidence) (ps : Transfers) (x : Answer) : Type 0 where
+  pub table : Table
+  pub settled : Settled e ps table
+  pub rows : x .rows ≡ mintTable (recorded e) ps table
+  pub room : x .room ≡ length table
+  pub passes : x .passes ≤ x .room
+  pub no-pass : (x .passes ≡ 0) ↔ (recorded e ≡ [])
+
+pub mints-made : (f : ℕ) (e : Evidence) (ps : Transfers) {x : Answer} → mints f e ps ≡ some x → Made e ps x
+unfolding mints finish
+mints-made f e ps {x} q = go (infer f e ps) refl q
+  where
+    go : (o : Option Outcome) → infer f e ps ≡ o → finish (recorded e) ps o ≡ some x → Made e ps x
+    go none p k = absurd (Option·none-ne-some x k)
+    go (some t) p k =
+        rw
+        (← (Option·some-injective _ x k))
+        (record {
+          table = t .0;
+          settled = infer-settled f e ps p;
+          rows = refl;
+          room = refl;
+          passes = infer-passes f e ps p;
+          no-pass = infer-none f e ps p;
+        })
+
+-- T6. With as much fuel as keys there is an answer, after no more passes than rows, which are no more than the keys.
+pub answered : {l : List Key} {e : Evidence} {ps : Transfers} → Among l e ps → (f : ℕ) → length l ≤ f → (x : Answer) × (mints f e ps ≡ some x) × (x .room ≤ length l)
+unfolding mints finish
+answered {l} {e} {ps} h f b = go (enough h f b)
+  where
+    go : (t : Table) × (n : ℕ) × (infer f e ps ≡ some (t, n)) × Settled e ps t × (n ≤ length l) → (x : Answer) × (mints f e ps ≡ some x) × (x .room ≤ length l)
+    go (t, n, q, s, k) = (record { rows = mintTable (recorded e) ps t; room = length t; passes = n }, rw q, rows-bound h (s .grows))
+
+-- 256 keys: an answer always, after at most 256 passes
+pub answered-256 : {l : List Key} {e : Evidence} {ps : Transfers} → Among l e ps → length l ≤ 256 → (x : Answer) × (mints 512 e ps ≡ some x) × (x .room ≤ 256) × (x .passes ≤ 256)
+answered-256 {e} {ps} h b =
+    let x = answered h 512 (omega arith) in
+    (x .0, x .1, omega arith, omega (arith, (mints-made 512 e ps (x .1)) .passes))
+
+module _ {e : Evidence} {ps : Transfers} {x : Answer} (y : Made e ps x) where
+  -- a row has a mint at the start of a chain (of no transfer, for a recorded account), and its account's mark
+  pub row-right : {a m : Key} {n : ℕ} → List·Memᴰ (a, m, n) (x .rows) → Chain e ps m a × Mark e ps (final (y .table)) a n
+  row-right i = table-right (y .settled) (rw (y .rows) at i)
+
+  -- an account has a row exactly when a chain reaches it
+  pub row-reached : {a : Key} → ((m : Key) × (n : ℕ) × List·Memᴰ (a, m, n) (x .rows)) ↔ ((m : Key) × Chain e ps m a)
+  row-reached = (λ r. (r .0, (row-right (r .2)) .0), λ c. let k = table-there (y .settled) (c .1) in (k .0, _, rw (← (y .rows)) at (k .1)))
+
+  -- T2. The rows ascend by account, with no account twice.
+  pub row-order : Ascending (λ r. r .0) (x .rows)
+  row-order = rw (y .rows) (table-ascending (recorded e) ps (settled-distinct (y .settled)))
+
+  -- one recorded mint is kept
+  pub row-kept : {a m : Key} → One e a m → List·Memᴰ (a, m, 0) (x .rows)
+  row-kept o = rw (y .rows) (table-kept (y .settled) o)
+
+  -- where no account is reached from two mints, a filled-in row has mark 1
+  pub row-sure : {a m : Key} {n : ℕ} → Apart e ps → Free e a → List·Memᴰ (a, m, n) (x .rows) → n ≡ 1
+  row-sure h f i = table-sure (y .settled) h f (rw (y .rows) at i)
+
+-- two answers: the same accounts with a mint, as much room; each recorded mint in both; and the same rows where no account is reached from two mints
+pub record Alike (e : Evidence) (ps : Transfers) (x y : Answer) : Type 0 where
+  pub accounts : rowAccounts (x .rows) ≡ rowAccounts (y .rows)
+  pub count : length (x .rows) ≡ length (y .rows)
+  pub room : x .room ≡ y .room
+  pub kept : {a m : Key} → One e a m → List·Memᴰ (a, m, 0) (x .rows) × List·Memᴰ (a, m, 0) (y .rows)
+  pub rows : Apart e ps → x .rows ≡ y .rows
+
+-- T5. Two answers over the same members are alike.
+pub alike : {e e′ : Evidence} {ps ps′ : Transfers} {x y : Answer} → SameMembers e e′ → SameMembers ps ps′ → Made e ps x → Made e′ ps′ y → Alike e ps x y
+alike {e} {e′} {ps} {ps′} {x} {y} se sp m n =
+    record {
+      accounts = same;
+      count = sym (length-map (x .rows) (λ r. r .0)) ∙ ap length same ∙ length-map (y .rows) (λ r. r .0);
+      room = rw (m .room, n .room) (same-room se sp (m .settled) (n .settled));
+      kept = λ {a} o. (row-kept m o, row-kept n (one-map (same-agree se a) o));
+      rows = λ h. rw (m .rows, n .rows) (same-table se sp (m .settled) (n .settled) h);
+    }
+  where
+    same : rowAccounts (x .rows) ≡ rowAccounts (y .rows)
+    same = rw (m .rows, n .rows) (same-table-accounts se sp (m .settled) (n .settled))
+
+-- both orders have an answer, and the two are alike
+pub record Both (e e′ : Evidence) (ps ps′ : Transfers) : Type 0 where
+  pub first : Answer
+  pub second : Answer
+  pub is-first : mints 512 e ps ≡ some first
+  pub is-second : mints 512 e′ ps′ ≡ some second
+  pub are-alike : Alike e ps first second
+
+-- The theorem for the same members, over at most 256 keys.
+pub order : {l : List Key} {e e′ : Evidence} {ps ps′ : Transfers} → Among l e ps → length l ≤ 256 → SameMembers e e′ → SameMembers ps ps′ → Both e e′ ps ps′
+order {e} {e′} {ps} {ps′} h b se sp =
+    let x = answered-256 h b in
+    let y = answered-256 (same-among se sp h) b in
+    record {
+      first = x .0;
+      second = y .0;
+      is-first = x .1;
+      is-second = y .1;
+      are-alike = alike se sp (mints-made 512 e ps (x .1)) (mints-made 512 e′ ps′ (y .1));
+    }
+
+-- The theorem for balance rows and invocations in any order: f and g say what they record, h which plain transfers they are.
+pub order-items : {l : List Key} {A B : Type 0} (f : A → Evidence) (g : B → Evidence) (h : B → Transfers) {xs xs′ : List A} {ys ys′ : List B}
+    → Among l (gather f xs ++ gather g ys) (gather h ys)
+    → length l ≤ 256
+    → List·Permᴰ xs xs′
+    → List·Permᴰ ys ys′
+    → Both (gather f xs ++ gather g ys) (gather f xs′ ++ gather g ys′) (gather h ys) (gather h ys′)
+order-items f g h w b p q = order w b (append-same (gather-same f p) (gather-same g q)) (gather-same h q)

@@ -1,0 +1,12 @@
+pub mod Transitive
+pub mod Blocks
+pub mod Ranges
+pub mod Count
+pub mod Bound
+pub mod Inside
+pub mod Arrays
+pub mod Walk
+pub mod Filling
+pub mod Numbers
+pub mod Cases
+pub mod Claims

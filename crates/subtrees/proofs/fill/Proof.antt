@@ -1,0 +1,96 @@
+use Rattle.subtrees.proofs.Filling.{Filling, filling-none, filling-more, filling-all}
+use Rattle.subtrees.proofs.Arrays.{positions-length}
+use Rattle.subtrees.specs.Subtrees.{positions}
+use lib.ListN.{length, length-set}
+use mathlib.Core.Path.{_≡_, refl}
+use Prim.Native.Nat.{_-_, _*_, _≤_}
+use native.Mathlib.Omega.{arith}
+use Rattle.subtrees.proofs.fill.Statement.{statement}
+use Rattle.subtrees.proofs.fill.Tie as tie
+
+abbrev Inv-loop : tie.InvT-loop
+Inv-loop n outer inner height own ends₀ inside₀ total₀ i₀ ends inside total i =
+    (i ≤ n) × (length ends ≡ 1024) × (length inside ≡ 1024) × (total ≤ 1024 * (n - i)) × Filling (positions outer inner height n) own ends inside total i
+
+abbrev μ-loop : tie.MeasureT-loop
+μ-loop n outer inner height own ends₀ inside₀ total₀ i₀ ends inside total i = i
+
+-- src/lib.rt:109:5
+loop-holds : tie.Need-loop-holds Inv-loop μ-loop
+loop-holds c =
+    let a = c .before .before .args in
+    let ps = positions (a .outer .now) (a .inner .now) (a .height .now) (a .n) in
+    (omega arith, refl, refl, omega arith, filling-none ps (a .own .now) (a .n) (positions-length (a .outer .now) (a .inner .now) (a .height .now) (a .n)))
+
+-- src/lib.rt:110:9
+sub-i : tie.Need-sub-i Inv-loop μ-loop
+sub-i c = omega arith
+
+-- src/lib.rt:111:13
+step-requires : tie.Need-step-requires Inv-loop μ-loop
+step-requires c κs =
+    let l = c .before .before .before .loop in
+    (omega arith, λ m p q. l .inv .4 .known m (omega arith) q)
+
+-- src/lib.rt:115:9
+mul-ends : tie.Need-mul-ends Inv-loop μ-loop
+mul-ends c = omega arith
+
+-- src/lib.rt:115:9
+element-write-ends : tie.Need-element-write-ends Inv-loop μ-loop
+element-write-ends c = omega arith
+
+-- src/lib.rt:116:9
+element-write-inside : tie.Need-element-write-inside Inv-loop μ-loop
+element-write-inside c = omega arith
+
+-- src/lib.rt:117:9
+add-total : tie.Need-add-total Inv-loop μ-loop
+add-total c = omega (arith, c .step .ensures .small)
+
+-- src/lib.rt:109:5
+loop-less : tie.Need-loop-less Inv-loop μ-loop
+loop-less c = omega arith
+
+-- src/lib.rt:109:5
+loop-again : tie.Need-loop-again Inv-loop μ-loop
+loop-again c =
+    let l = c .before .before .before .before .loop in
+    let a = c .before .before .before .before .before .before .before .args in
+    let r = c .step .result in
+    let ps = positions (a .outer .now) (a .inner .now) (a .height .now) (a .n) in
+    let len : length ps ≡ a .n = positions-length (a .outer .now) (a .inner .now) (a .height .now) (a .n) in (
+      omega arith,
+      simp length-set (l .inv .1),
+      simp length-set (l .inv .2),
+      omega (arith, c .step .ensures .small),
+      filling-more ps (a .own .now) (l .ends) (l .inside) (l .total) (l .i) (l .i - 1) (r .end) (r .inside) (r .tests)
+          (omega arith) (omega arith) (omega arith) (omega arith) (c .step .ensures) (l .inv .4),
+    )
+
+-- src/lib.rt:101:1
+returns : tie.Need-returns Inv-loop μ-loop
+returns c =
+    let l = c .before .loop in
+    let a = c .before .before .before .before .args in
+    let ps = positions (a .outer .now) (a .inner .now) (a .height .now) (a .n) in
+    let len : length ps ≡ a .n = positions-length (a .outer .now) (a .inner .now) (a .height .now) (a .n) in
+    let z : l .i ≡ 0 = omega arith in
+    filling-all ps (a .own .now) (l .ends) (l .inside) (l .total) (omega arith) (l .inv .1) (l .inv .2) (rw z at (l .inv .4))
+
+pub fill-spec : {M : Type 1} → statement M
+fill-spec =
+    tie.close
+    (tie.spec
+    Inv-loop
+    μ-loop
+    loop-holds
+    sub-i
+    step-requires
+    mul-ends
+    element-write-ends
+    element-write-inside
+    add-total
+    loop-less
+    loop-again
+    returns)

@@ -1,0 +1,3 @@
+pub mod Descendant
+pub mod Blocks
+pub mod Subtrees

@@ -1,0 +1,96 @@
+-- Ends, inside bits and tests of a list of positions, and what the arrays of 1,024 hold.
+-- Assumes nothing.
+use Prim.Native.Nat.{ℕ, zero, suc, _+_, _-_, _/_, _%_, _≤_, _<_}
+use mathlib.Core.Path.{_≡_}
+use mathlib.Core.Bool.{Bool, cond, _||_}
+use mathlib.Core.List.{List, [], _∷_, _++_}
+use mathlib.Core.Option.{none}
+use lib.Dec.{ltb, eqb}
+use lib.ListN.{length, getD}
+use Rattle.wire.specs.Zeros.{zeros}
+use Rattle.pack.specs.Invocation.{Position, lowered, positionAt}
+use Rattle.subtrees.specs.Descendant.{descendant}
+use Rattle.subtrees.specs.Blocks.{endAt, someIn, testsAt, allTests}
+
+-- f at the n numbers from i up
+unfoldable pub tab : {A : Type 0} → (ℕ → A) → ℕ → ℕ → List A
+tab f i zero = []
+tab f i (suc n) = f i ∷ tab f (suc i) n
+
+-- position i of a list; past its end nothing is asked of it
+unfoldable pub place : List Position → ℕ → Position
+place ps i = getD ps i (record { outer = 0; inner = none; height = none })
+
+-- invocation x is a descendant of invocation i
+unfoldable pub within : List Position → ℕ → ℕ → Bool
+within ps i x = descendant (place ps i) (place ps x)
+
+-- the end of invocation i
+abbrev pub endOf : List Position → ℕ → ℕ
+endOf ps i = endAt (length ps) (within ps) i
+
+-- the two bits of a byte: 1 a transfer, 2 a swap; higher bits mean nothing
+abbrev pub odd : ℕ → Bool
+odd b = eqb (b % 2) 1
+
+abbrev pub hasTransfer : ℕ → Bool
+hasTransfer b = odd b
+
+abbrev pub hasSwap : ℕ → Bool
+hasSwap b = odd (b / 2)
+
+-- the byte of two bits
+abbrev pub bits : Bool → Bool → ℕ
+bits t s = cond t 1 0 + cond s 2 0
+
+-- the bits of two bytes together
+unfoldable pub joined : ℕ → ℕ → ℕ
+joined a b = bits (hasTransfer a || hasTransfer b) (hasSwap a || hasSwap b)
+
+-- the inside bits of invocation i: some member of its block has a transfer, some has a swap, by each invocation's own bits
+unfoldable pub insideOf : List Position → List ℕ → ℕ → ℕ
+insideOf ps own i =
+    bits (someIn (length ps) (within ps) i (λ y. hasTransfer (getD own y 0))) (someIn (length ps) (within ps) i (λ y. hasSwap (getD own y 0)))
+
+-- the ends of all invocations, their inside bits, and the calls of `descendant` for all of them
+abbrev pub endsOf : List Position → List ℕ
+endsOf ps = tab (endOf ps) 0 (length ps)
+
+abbrev pub insidesOf : List Position → List ℕ → List ℕ
+insidesOf ps own = tab (insideOf ps own) 0 (length ps)
+
+abbrev pub testsOf : List Position → ℕ
+testsOf ps = allTests (length ps) (within ps)
+
+-- how many invocations are looked at: more than 1,024 are taken as 1,024
+unfoldable pub taken : ℕ → ℕ
+taken n = cond (ltb 1024 n) 1024 n
+
+-- the position that three numbers of the arrays stand for
+abbrev pub positionOf : ℕ → ℕ → ℕ → Position
+positionOf o i h = record { outer = o; inner = lowered i; height = lowered h }
+
+-- the positions that three arrays hold at their first n places
+unfoldable pub positions : List ℕ → List ℕ → List ℕ → ℕ → List Position
+positions outer inner height n = tab (positionAt outer inner height) 0 n
+
+-- an array of 1,024: a list from its start on, and zeros after it
+unfoldable pub filled : List ℕ → List ℕ
+filled l = l ++ zeros (1024 - length l)
+
+-- two arrays hold the ends and the inside bits of the invocations from `at` on
+abbrev pub Known : List Position → List ℕ → List ℕ → List ℕ → ℕ → Type 0
+Known ps own ends inside at = (m : ℕ) → at ≤ m → m < length ps → (getD ends m 0 ≡ endOf ps m) × (getD inside m 0 ≡ insideOf ps own m)
+
+-- what a step answers for invocation i
+pub record Stepped (ps : List Position) (own : List ℕ) (i end inside tests : ℕ) : Type 0 where
+  pub ends : end ≡ endOf ps i
+  pub insides : inside ≡ insideOf ps own i
+  pub counted : tests ≡ testsAt (length ps) (within ps) i
+  pub small : tests ≤ 1024
+
+-- what `subtrees` answers, and what it leaves in the two arrays
+pub record Subtrees (ps : List Position) (own : List ℕ) (r : ℕ) (ends inside : List ℕ) : Type 0 where
+  pub tests : r ≡ testsOf ps
+  pub ends-left : ends ≡ filled (endsOf ps)
+  pub inside-left : inside ≡ filled (insidesOf ps own)
