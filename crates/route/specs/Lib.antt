@@ -3,3 +3,5 @@ pub mod Row
 pub mod Program
 pub mod Arrays
 pub mod Mints
+pub mod Known
+pub mod Transfers

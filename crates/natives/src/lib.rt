@@ -1,1 +1,0 @@
-// Native actions: funding, syncing and closing a wrapped SOL account.
