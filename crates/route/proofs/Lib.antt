@@ -1,3 +1,4 @@
 pub mod Rows
 pub mod Row
 pub mod Moving
+pub mod Acting

@@ -5,3 +5,4 @@ pub mod Arrays
 pub mod Mints
 pub mod Known
 pub mod Transfers
+pub mod Actions
