@@ -1,5 +1,9 @@
 // The legs of eight protocols.
-ghost use mathlib.Core.Path.{_≡_};
+mod clmm;
+mod cpmm;
+mod discriminators;
+mod draft;
+mod fields;
 
 // A leg in numbers. Accounts are places among the instruction's accounts in a protocol's own function, and indexes of keys in what `leg` answers.
 pub struct Swap {
