@@ -16,7 +16,7 @@ use Rattle.ids.specs.declared.Id.the-variants.{AmmV4, PumpSwap, Dlmm}
 use Rattle.swaps.specs.Discriminators.{SELL, SWAP2}
 use Rattle.swaps.specs.Data.{is, isFlag}
 use Rattle.swaps.specs.Dlmm.{tagSize, slices, slicesFit, layout, dlmm}
-use Rattle.swaps.specs.PumpSwap.{pumpSwap, pumpSwapLeg}
+use Rattle.swaps.specs.PumpSwap.{trackVolume, pumpSwap, pumpSwapLeg}
 use Rattle.swaps.specs.AmmV4.{ammV4}
 use Rattle.swaps.specs.Leg.{RouteLeg, contains, valued}
 use Rattle.swaps.specs.Swap.{found, swap}
@@ -79,5 +79,5 @@ repository =
     143 ∷ 190 ∷ 90 ∷ 218 ∷ 196 ∷ 30 ∷ 51 ∷ 222 ∷ 55 ∷ 217 ∷ 98 ∷ 86 ∷ 163 ∷ 74 ∷ 180 ∷ 173 ∷ 102 ∷ 6 ∷ 61 ∷ 18 ∷ 1 ∷ 218 ∷ 235 ∷ 234 ∷ zeros 64
 
 pub marked : all-right repository [] cases ≡ true
-unfolding le leBytes same zeroKey is isFlag tagSize slices slicesFit layout dlmm pumpSwap pumpSwapLeg ammV4 contains valued found swap keyed upTo parties cases sameKeys right all-right
+unfolding le leBytes same zeroKey is isFlag tagSize slices slicesFit layout dlmm trackVolume pumpSwap pumpSwapLeg ammV4 contains valued found swap keyed upTo parties cases sameKeys right all-right
 marked = refl

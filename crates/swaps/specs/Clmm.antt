@@ -16,7 +16,7 @@ abbrev pub clmmTakes : ℕ → List ℕ → Bool
 clmmTakes n d = (is d SWAP || is d SWAP-V2) && leb (cond (is d SWAP-V2) 13 10) n
 
 -- the leg: `swap_v2` alone names its mints
-abbrev pub clmmLeg : Bool → Bool → ℕ → ℕ → Swap
+unfoldable pub clmmLeg : Bool → Bool → ℕ → ℕ → Swap
 clmmLeg v2 exact amount threshold =
     let s = plain 5 2 0 3 4 exact amount threshold in
     cond v2 (pairing s 11 12) s

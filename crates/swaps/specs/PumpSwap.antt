@@ -14,8 +14,12 @@ use Rattle.swaps.specs.Discriminators.{BUY-EXACT-QUOTE-IN, BUY-EXACT-QUO
 use Rattle.swaps.specs.Data.{is, isFlag, when, both}
 use Rattle.swaps.specs.Draft.{plain, pairBy}
 
+-- exactly 17 accounts, or 21 up
+abbrev pub pumpSwapTakes : ℕ → Bool
+pumpSwapTakes n = leb 21 n || eqb n 17
+
 -- a buy's byte 24, where it is there, is 0 or 1; a sell's is not looked at
-abbrev pub trackVolume : List ℕ → Bool → Bool
+unfoldable pub trackVolume : List ℕ → Bool → Bool
 trackVolume d buy = cond (buy && ltb 24 (length d)) (isFlag d 24) true
 
 -- the pair goes by the input's key, not by the direction
@@ -27,7 +31,7 @@ pumpSwapLeg a d buy exact =
 
 unfoldable pub pumpSwap : List ℕ → (ℕ → Key) → ℕ → List ℕ → Found
 pumpSwap names a n d =
-    when (leb 21 n || eqb n 17)
+    when (pumpSwapTakes n)
     (cond (is d BUY-EXACT-QUOTE-IN || is d BUY-EXACT-QUOTE-IN-V2) (pumpSwapLeg a d true true)
     (cond (is d (le 8 names 16) || is d BUY-V2) (pumpSwapLeg a d true false)
     (when (is d SELL || is d SELL-V2) (pumpSwapLeg a d false true))))

@@ -1,6 +1,6 @@
 // What the protocols read of an instruction's data, and of its accounts.
 ghost use mathlib.Core.Path.{_≡_};
-ghost use mathlib.Core.Bool.{cond};
+ghost use mathlib.Core.Bool.{cond, _||_};
 ghost use lib.Dec.{ltb};
 ghost use lib.ListN.{length, getD};
 ghost use Rattle.wire.specs.Same.{same};
@@ -15,6 +15,16 @@ pub fn is(data: &[u8], disc: u64) -> bool
         return false;
     }
     wire::u64_at(data, 0) == disc
+}
+
+// Whether they are one of two discriminators.
+pub fn is_either(data: &[u8], x: u64, y: u64) -> bool
+    ensures { λ r. ⌜ r ≡ (isOf (now («data» .entry)) x || isOf (now («data» .entry)) y) ⌝ }
+{
+    if is(data, x) {
+        return true;
+    }
+    is(data, y)
 }
 
 // Whether the byte at `at` is there, and is 0 or 1.

@@ -1,9 +1,15 @@
 // The legs of eight protocols.
+mod amm_v4;
 mod clmm;
 mod cpmm;
 mod discriminators;
+mod dlmm;
 mod draft;
 mod fields;
+mod launchlab;
+mod orca;
+mod pumpfun;
+mod pumpswap;
 
 // A leg in numbers. Accounts are places among the instruction's accounts in a protocol's own function, and indexes of keys in what `leg` answers.
 pub struct Swap {

@@ -1,3 +1,4 @@
+use Rattle.swaps.specs.Clmm.{clmmLeg}
 use borrow.Author.Needs.{needs}
 use Rattle.swaps.proofs.clmm.draft.Statement.{statement}
 use Rattle.swaps.proofs.clmm.draft.Tie as tie
@@ -16,11 +17,13 @@ pairing-requires c κs = search needs
 
 -- src/clmm.rt:23:1
 returns : tie.Need-returns
-returns c = simp (c .pairing .ensures, c .before .before .plain .ensures, c .before .if1 .taken)
+unfolding clmmLeg
+returns c = simp (c .before .if1 .taken, c .pairing .ensures, c .before .before .plain .ensures)
 
 -- src/clmm.rt:23:1
 returns-2 : tie.Need-returns-2
-returns-2 c = simp (c .before .plain .ensures, c .if1 .left)
+unfolding clmmLeg
+returns-2 c = simp (c .if1 .left, c .before .plain .ensures)
 
 pub draft-spec : {M : Type 1} → statement M
 draft-spec = tie.close (tie.spec plain-requires pairing-requires returns returns-2)
