@@ -19,7 +19,7 @@ use Rattle.swaps.specs.Dlmm.{tagSize, slices, slicesFit, layout, dlmm}
 use Rattle.swaps.specs.PumpSwap.{trackVolume, pumpSwap, pumpSwapLeg}
 use Rattle.swaps.specs.AmmV4.{ammV4}
 use Rattle.swaps.specs.Leg.{RouteLeg, contains, valued}
-use Rattle.swaps.specs.Swap.{found, swap}
+use Rattle.swaps.specs.Swap.{byProgram, swap}
 
 -- a program, a number of accounts, the data, and the keys of trader, input and output where there is a leg
 pub record Case : Type 0 where
@@ -79,5 +79,5 @@ repository =
     143 ∷ 190 ∷ 90 ∷ 218 ∷ 196 ∷ 30 ∷ 51 ∷ 222 ∷ 55 ∷ 217 ∷ 98 ∷ 86 ∷ 163 ∷ 74 ∷ 180 ∷ 173 ∷ 102 ∷ 6 ∷ 61 ∷ 18 ∷ 1 ∷ 218 ∷ 235 ∷ 234 ∷ zeros 64
 
 pub marked : all-right repository [] cases ≡ true
-unfolding le leBytes same zeroKey is isFlag tagSize slices slicesFit layout dlmm trackVolume pumpSwap pumpSwapLeg ammV4 contains valued found swap keyed upTo parties cases sameKeys right all-right
+unfolding le leBytes same zeroKey is isFlag tagSize slices slicesFit layout dlmm trackVolume pumpSwap pumpSwapLeg ammV4 contains valued byProgram swap keyed upTo parties cases sameKeys right all-right
 marked = refl

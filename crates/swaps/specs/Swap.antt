@@ -21,28 +21,28 @@ use Rattle.swaps.specs.AmmV4.{ammV4}
 use Rattle.swaps.specs.Leg.{RouteLeg, valued}
 
 -- the protocol's own function, by the program: names, the instruction's accounts as keys, their number, its data
-unfoldable pub found : List ℕ → (ℕ → Key) → Id → ℕ → List ℕ → Found
-found names a Clmm n d = clmm n d
-found names a Orca n d = orca a n d
-found names a Cpmm n d = cpmm names n d
-found names a Dlmm n d = dlmm n d
-found names a LaunchLab n d = launchLab names a n d
-found names a PumpFun n d = pumpFun a n d
-found names a PumpSwap n d = pumpSwap names a n d
-found names a AmmV4 n d = ammV4 n d
-found names a SplToken n d = Nothing
-found names a Token2022 n d = Nothing
-found names a WrappedSol n d = Nothing
-found names a ComputeBudget n d = Nothing
-found names a AssociatedToken n d = Nothing
-found names a Memo n d = Nothing
-found names a System n d = Nothing
-found names a Other n d = Nothing
-found names a Unresolved n d = Nothing
+unfoldable pub byProgram : List ℕ → (ℕ → Key) → Id → ℕ → List ℕ → Found
+byProgram names a Clmm n d = clmm n d
+byProgram names a Orca n d = orca a n d
+byProgram names a Cpmm n d = cpmm names n d
+byProgram names a Dlmm n d = dlmm n d
+byProgram names a LaunchLab n d = launchLab names a n d
+byProgram names a PumpFun n d = pumpFun a n d
+byProgram names a PumpSwap n d = pumpSwap names a n d
+byProgram names a AmmV4 n d = ammV4 n d
+byProgram names a SplToken n d = Nothing
+byProgram names a Token2022 n d = Nothing
+byProgram names a WrappedSol n d = Nothing
+byProgram names a ComputeBudget n d = Nothing
+byProgram names a AssociatedToken n d = Nothing
+byProgram names a Memo n d = Nothing
+byProgram names a System n d = Nothing
+byProgram names a Other n d = Nothing
+byProgram names a Unresolved n d = Nothing
 
 -- `swap`: κ gives the key of an index, μ the mint of an account; the bytes are the instruction's data
 unfoldable pub swap : List ℕ → (ℕ → Key) → Id → List ℕ → List ℕ → (Key → Option Key) → List Key → Option RouteLeg
-swap names κ id accounts bytes μ pools = valued (account κ accounts) μ pools (found names (account κ accounts) id (length accounts) bytes)
+swap names κ id accounts bytes μ pools = valued (account κ accounts) μ pools (byProgram names (account κ accounts) id (length accounts) bytes)
 
 -- places become the index bytes that stand there
 abbrev pub indexed : List ℕ → Found → Found
@@ -65,4 +65,4 @@ indexed accounts (Leg s) =
 
 -- a leg in numbers, its accounts as index bytes
 abbrev pub legOf : List ℕ → (ℕ → Key) → Id → List ℕ → List ℕ → Found
-legOf names κ id accounts bytes = indexed accounts (found names (account κ accounts) id (length accounts) bytes)
+legOf names κ id accounts bytes = indexed accounts (byProgram names (account κ accounts) id (length accounts) bytes)
