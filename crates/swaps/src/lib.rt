@@ -13,6 +13,7 @@ mod launchlab;
 mod orca;
 mod pumpfun;
 mod pumpswap;
+pub mod row;
 
 use ids::Id;
 ghost use mathlib.Core.Path.{_≡_};
