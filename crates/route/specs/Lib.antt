@@ -6,3 +6,4 @@ pub mod Mints
 pub mod Known
 pub mod Transfers
 pub mod Actions
+pub mod Legs
