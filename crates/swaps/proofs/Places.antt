@@ -123,8 +123,8 @@ module _ (n : ℕ) where
   unfolding dlmm layout
   dlmm-among d =
       forms (layout n d) (is d SWAP || is d SWAP2) (is d SWAP-EXACT-OUT || is d SWAP-EXACT-OUT2) (dlmmLeg d) (λ e exact.
-        let h = floored (is d SWAP || is d SWAP-EXACT-OUT) (is d SWAP2 || is d SWAP-EXACT-OUT2) (leb 24 (length d)) (slicesFit n d) e in
-        straight (leb 24 (length d)) exact 7 0 10 4 5 (le 8 d 8) (le 8 d 16) (omega arith) (omega arith) (omega arith) (omega arith))
+      let h = floored (is d SWAP || is d SWAP-EXACT-OUT) (is d SWAP2 || is d SWAP-EXACT-OUT2) (leb 24 (length d)) (slicesFit n d) e in
+      straight (leb 24 (length d)) exact 7 0 10 4 5 (le 8 d 8) (le 8 d 16) (omega arith) (omega arith) (omega arith) (omega arith))
 
   launchlab-forms : (t p q r s : Bool) (f : Bool → Bool → Found) → (t ≡ true → (buy exact : Bool) → Among n (f buy exact))
       → Among n (when t (cond p (f true true) (cond q (f false true) (cond r (f true false) (when s (f false false))))))
@@ -153,7 +153,7 @@ module _ (n : ℕ) where
   unfolding launchLab
   launchlab-among names a d =
       launchlab-forms (leb 15 n) (is d BUY-EXACT-IN) (is d SELL-EXACT-IN) (is d BUY-EXACT-OUT) (is d SELL-EXACT-OUT) (launchLabLeg names a d) (λ e buy exact.
-        launchlab-leg names a d buy exact (leb-true 15 n e))
+      launchlab-leg names a d buy exact (leb-true 15 n e))
 
   pumpfun-leg : (wrapped buy exact : Bool) (pool user base quote x y : ℕ) → pool < n → user < n → base < n → quote < n → 2 < n
       → Within n (pumpFunLeg wrapped pool user base quote buy exact x y)
@@ -238,8 +238,8 @@ module _ (n : ℕ) where
       let tag = getD d 0 0 in
       amm-forms (eqb tag 16 || eqb tag 17) (leb 8 n) (eqb tag 9 || eqb tag 11) (leb 17 n) (ammV4Short tag d) (ammV4Long tag n d)
       (λ e.
-        let h = leb-true 8 n (and-right (eqb tag 16 || eqb tag 17) (leb 8 n) e) in
-        straight (leb 17 (length d)) (eqb tag 16) 4 1 7 5 6 (le 8 d 1) (le 8 d 9) (omega arith) (omega arith) (omega arith) (omega arith))
+      let h = leb-true 8 n (and-right (eqb tag 16 || eqb tag 17) (leb 8 n) e) in
+      straight (leb 17 (length d)) (eqb tag 16) 4 1 7 5 6 (le 8 d 1) (le 8 d 9) (omega arith) (omega arith) (omega arith) (omega arith))
       (λ e. amm-long tag d (eqb n 17) refl (leb-true 17 n (and-right (eqb tag 9 || eqb tag 11) (leb 17 n) e)))
 
   -- whichever the program
