@@ -2,3 +2,4 @@ pub mod Rows
 pub mod Row
 pub mod Moving
 pub mod Acting
+pub mod Legging

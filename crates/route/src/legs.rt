@@ -28,7 +28,13 @@ fn put_one(
 {
     let program = wide(pack::program(pack, at));
     let id = ids::program(keys, program);
-    let found = swaps::leg(names, keys, id, pack::accounts(pack, at), pack::data(pack, at));
+    let found = swaps::leg(
+        names,
+        keys,
+        id,
+        pack::accounts(pack, at),
+        pack::data(pack, at),
+    );
     match found {
         Found::Nothing => 0,
         Found::Leg(leg) => {
@@ -49,4 +55,41 @@ fn number(r: u8, k: usize) -> u32
         return 0;
     }
     k as u32 + 1
+}
+
+// The rows of the n invocations; `leg` holds the number of each one's leg. Answers how many there are.
+pub(crate) fn put_rows(
+    names: &[u8],
+    keys: &[u8],
+    pack: &[u8],
+    pools: &[u8],
+    n: usize,
+    at: &[u32; 1024],
+    mints: &[u8],
+    out: &mut [u8],
+    leg: &mut [u32; 1024],
+) -> usize
+    requires { ⌜ (n ≤ 1024) × (length (now mints) ≡ 8192) ⌝ }
+    ensures { λ c. ⌜ Fills (now (mints .entry)) (now (keys .entry)) (legRows (now (names .entry)) (now (keys .entry)) (poolsOf (now (pools .entry)))) (itemAt (now (pack .entry)) (now (at .entry))) 250 n c (now (out .entry)) (now (out .exit)) ⌝ }
+    ensures { λ _. ⌜ Numbers (now (mints .entry)) (now (keys .entry)) (legRows (now (names .entry)) (now (keys .entry)) (poolsOf (now (pools .entry)))) (itemAt (now (pack .entry)) (now (at .entry))) n (now (leg .entry)) (now (leg .exit)) ⌝ }
+{
+    let mut k = 0;
+    let mut i = 0;
+    while i < n {
+        let r = put_one(
+            names,
+            keys,
+            pack,
+            pools,
+            wide(at[i]),
+            i as u32,
+            mints,
+            out,
+            k,
+        );
+        leg[i] = number(r, k);
+        k += wide(r as u32);
+        i += 1;
+    }
+    k
 }
