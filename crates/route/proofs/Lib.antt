@@ -3,3 +3,4 @@ pub mod Row
 pub mod Moving
 pub mod Acting
 pub mod Legging
+pub mod Fitting

@@ -8,4 +8,5 @@ pub mod Program
 pub mod Row
 pub mod Tables
 pub mod Route
+pub mod Fit
 pub mod Arrays
