@@ -3,3 +3,4 @@ pub mod Row
 pub mod Program
 pub mod Arrays
 pub mod Mints
+pub mod Order
