@@ -1,5 +1,7 @@
 pub mod Rows
 pub mod Row
+pub mod Moving
+pub mod Acting
 pub mod OrderKeys
 pub mod OrderTable
 pub mod OrderMints

@@ -11,6 +11,9 @@ use lib.ListN.{length, set, length-append}
 use Rattle.wire.specs.Sets.{sets-next}
 use lib.Seq.{sets}
 use Rattle.subtrees.specs.Subtrees.{tab}
+use Rattle.pack.specs.Invocation.{Instruction}
+use Rattle.evidence.specs.MintTable.{MintRow}
+use Rattle.route.specs.Known.{Puts, Fills, Counts}
 use Rattle.route.specs.Lay.{rowsOf, placed}
 
 -- one number more
@@ -66,3 +69,35 @@ pub array-more : (g : ℕ → ℕ) (i : ℕ) (a₀ a : List ℕ) → a ≡ sets 
 array-more g i a₀ a p =
     rw (p, add-one i, tab-snoc g 0 i, zero-add)
     (sets-next a₀ 0 (tab g 0 i) (g i ∷ []) i (zero-add (length (tab g 0 i)) ∙ tab-length g 0 i))
+
+-- nothing is written yet; and one instruction more
+module _ (ms ks : List ℕ) (f : List MintRow → ℕ → Instruction → List (List ℕ)) (x : ℕ → Instruction) where
+  pub fills-none : (w : ℕ) (t : List ℕ) → Fills ms ks f x w 0 0 t t
+  unfolding tab rowsOf placed
+  fills-none w t = record { few = omega arith; counted = λ table h. refl; rows = λ table h. refl }
+
+  pub fills-more : (w i k r : ℕ) (t₀ t u : List ℕ)
+      → Fills ms ks f x w i k t₀ t
+      → Puts ms ks (λ table. f table i (x i)) w k r t u
+      → Fills ms ks f x w (i + 1) (k + r) t₀ u
+  fills-more w i k r t₀ t u a b =
+      let few = a .few in
+      let more = b .few in
+      record {
+        few = omega arith;
+        counted = λ table h. count-more (f table) x i k r (a .counted table h) (b .counted table h);
+        rows = λ table h. rows-more (f table) x i w t₀ t u k (a .rows table h) (a .counted table h) (b .rows table h);
+      }
+
+  pub counts-none : (t : List ℕ) → Counts ms ks f x 0 t t
+  unfolding tab
+  counts-none t = record { each = λ table h. refl }
+
+  pub counts-more : (w i k r : ℕ) (t u : List ℕ) (a₀ a : List ℕ)
+      → Counts ms ks f x i a₀ a
+      → Puts ms ks (λ table. f table i (x i)) w k r t u
+      → Counts ms ks f x (i + 1) a₀ (set a i r)
+  counts-more w i k r t u a₀ a p b =
+      record {
+        each = λ table h. rw (b .counted table h) (array-more (λ j. length (f table j (x j))) i a₀ a (p .each table h));
+      }

@@ -5,7 +5,7 @@ ghost use Prim.Native.Nat.{ℕ, _<_, _≤_};
 ghost use lib.ListN.{getD};
 ghost use lib.Seq.{sets};
 ghost use Rattle.pack.specs.Invocation.{lowered, positionAt};
-ghost use Rattle.route.specs.Arrays.{ownBits, bitsAt, rowAt};
+ghost use Rattle.route.specs.Arrays.{ownFor, ownAt, ownBits, bitsAt, rowAt};
 ghost use Rattle.subtrees.specs.Subtrees.{tab};
 ghost use Rattle.route.specs.Lay.{placed};
 ghost use Rattle.route.specs.Program.{programBits};
@@ -86,6 +86,34 @@ fn own_bits(moved: u8, leg: u32) -> u8
         return 16;
     }
     48
+}
+
+// What an invocation has itself, for those around it: 1 a transfer, 2 a leg.
+fn own_for(moved: u8, leg: u32) -> u8
+    ensures { λ r. ⌜ r ≡ ownFor moved leg ⌝ }
+{
+    if moved == 0 {
+        if leg == 0 {
+            return 0;
+        }
+        return 2;
+    }
+    if leg == 0 {
+        return 1;
+    }
+    3
+}
+
+// The same for n invocations.
+pub(crate) fn put_own(n: usize, moved: &[u8; 1024], leg: &[u32; 1024], own: &mut [u8; 1024])
+    requires { ⌜ n ≤ 1024 ⌝ }
+    ensures { λ _. ⌜ now (own .exit) ≡ sets (now (own .entry)) 0 (tab (ownAt (now (moved .entry)) (now (leg .entry))) 0 n) ⌝ }
+{
+    let mut i = 0;
+    while i < n {
+        own[i] = own_for(moved[i], leg[i]);
+        i += 1;
+    }
 }
 
 // An offset that an array holds: a number handed to a function is known to be below 2^32, an element is not.

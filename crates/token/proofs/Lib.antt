@@ -3,3 +3,5 @@ pub mod Reading
 pub mod Said
 pub mod Laws
 pub mod Rows
+pub mod Differences
+pub mod Cases

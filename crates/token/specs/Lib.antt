@@ -4,3 +4,4 @@ pub mod Records
 pub mod Transfers
 pub mod Moved
 pub mod Rows
+pub mod Published
