@@ -8,10 +8,12 @@ ghost use lib.ListN.{length};
 ghost use Rattle.pack.specs.Items.{itemEnd};
 ghost use Rattle.pack.specs.Verdict.{verdict, numberOf, placeOf};
 
+pub mod flat;
 pub mod item;
 pub mod trailer;
 pub mod whole;
 
+pub use flat::flatten;
 pub use item::accounts;
 pub use item::data;
 pub use item::program;

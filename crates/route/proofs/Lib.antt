@@ -7,3 +7,4 @@ pub mod OrderTable
 pub mod OrderMints
 pub mod OrderWays
 pub mod Order
+pub mod Legging

@@ -13,7 +13,7 @@ use lib.Seq.{sets}
 use Rattle.subtrees.specs.Subtrees.{tab}
 use Rattle.pack.specs.Invocation.{Instruction}
 use Rattle.evidence.specs.MintTable.{MintRow}
-use Rattle.route.specs.Known.{Puts, Fills, Counts}
+use Rattle.route.specs.Known.{Puts, Fills, Counts, numberAt, Numbers}
 use Rattle.route.specs.Lay.{rowsOf, placed}
 
 -- one number more
@@ -100,4 +100,19 @@ module _ (ms ks : List ℕ) (f : List MintRow → ℕ → Instruction → List (
   counts-more w i k r t u a₀ a p b =
       record {
         each = λ table h. rw (b .counted table h) (array-more (λ j. length (f table j (x j))) i a₀ a (p .each table h));
+      }
+
+  pub numbers-none : (t : List ℕ) → Numbers ms ks f x 0 t t
+  unfolding tab
+  numbers-none t = record { each = λ table h. refl }
+
+  pub numbers-more : (w i k r : ℕ) (t₀ t u : List ℕ) (a₀ a : List ℕ)
+      → Numbers ms ks f x i a₀ a
+      → Fills ms ks f x w i k t₀ t
+      → Puts ms ks (λ table. f table i (x i)) w k r t u
+      → Numbers ms ks f x (i + 1) a₀ (set a i (r * suc k))
+  unfolding numberAt
+  numbers-more w i k r t₀ t u a₀ a p q b =
+      record {
+        each = λ table h. rw (b .counted table h, q .counted table h) (array-more (numberAt (f table) x) i a₀ a (p .each table h));
       }

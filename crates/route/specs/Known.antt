@@ -1,6 +1,6 @@
 -- Rows of tables 2 to 4 where the final mint of each key is at hand as bytes.
 -- Assumes nothing.
-use Prim.Native.Nat.{ℕ, _*_, _≤_, _<_}
+use Prim.Native.Nat.{ℕ, suc, _*_, _≤_, _<_}
 use mathlib.Core.Bool.{Bool, true, false}
 use mathlib.Core.List.{List, [], _∷_}
 use mathlib.Core.Option.{Option, none, some}
@@ -47,3 +47,11 @@ pub record Fills (ms ks : List ℕ) (f : List MintRow → ℕ → Instruction �
 -- an array then holds how many rows each instruction has
 pub record Counts (ms ks : List ℕ) (f : List MintRow → ℕ → Instruction → List (List ℕ)) (x : ℕ → Instruction) (n : ℕ) (before after : List ℕ) : Type 0 where
   pub each : (table : List MintRow) → Holds ms ks table → after ≡ sets before 0 (tab (λ i. length (f table i (x i))) 0 n)
+
+-- the number of invocation i's row among those that f makes of the instructions x: 0 where it has none, else 1 plus the rows before it
+unfoldable pub numberAt : (ℕ → Instruction → List (List ℕ)) → (ℕ → Instruction) → ℕ → ℕ
+numberAt f x i = length (f i (x i)) * suc (length (rowsOf f 0 (tab x 0 i)))
+
+-- an array then holds the number of each instruction's row
+pub record Numbers (ms ks : List ℕ) (f : List MintRow → ℕ → Instruction → List (List ℕ)) (x : ℕ → Instruction) (n : ℕ) (before after : List ℕ) : Type 0 where
+  pub each : (table : List MintRow) → Holds ms ks table → after ≡ sets before 0 (tab (numberAt (f table) x) 0 n)

@@ -7,3 +7,4 @@ pub mod Known
 pub mod Transfers
 pub mod Actions
 pub mod Order
+pub mod Legs

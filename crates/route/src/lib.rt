@@ -4,4 +4,5 @@
 // the answer and the tables are those of the definition `route`.
 mod actions;
 mod invocations;
+mod legs;
 mod transfers;

@@ -58,20 +58,20 @@ keys-length a b c d e ha hb hc hd he = rw (length-append, length-append, length-
 -- fields of 4, 1, 160, 33 and 33 bytes, and the rest, stored one after the other
 fields-in : (out : List ℕ) (at i p : ℕ) (k m n e : List ℕ) → length k ≡ 160 → length m ≡ 33 → length n ≡ 33
     → sets (sets (sets (sets (set (sets out at (leBytes 4 i)) (at + 4) p) (at + 5) k) (at + 165) m) (at + 198) n) (at + 231) e
-      ≡ sets out at (leBytes 4 i ++ (p ∷ []) ++ k ++ m ++ n ++ e)
+    ≡ sets out at (leBytes 4 i ++ (p ∷ []) ++ k ++ m ++ n ++ e)
 fields-in out at i p k m n e hk hm hn = simp (sets-append, length-append, leBytes-length, hk, hm, hn)
 
 -- a leg's row, stored field by field
 pub row-in : (out : List ℕ) (at i : ℕ) (ks : List ℕ) (program : ℕ) (spent bought : List ℕ) (pools : List Key) (s : Swap)
     → sets
-        (sets
-          (sets
-            (sets (set (sets out at (leBytes 4 i)) (at + 4) (s .protocol)) (at + 5)
-              (keyBytes (keyOf ks program) (keyOf ks (s .pool)) (keyOf ks (s .trader)) (keyOf ks (s .input)) (keyOf ks (s .output))))
-            (at + 165) (mintBytes (orElse (known spent) (explicit (s .paired) (keyOf ks (s .first))))))
-          (at + 198) (mintBytes (orElse (known bought) (explicit (s .paired) (keyOf ks (s .second))))))
-        (at + 231) (endBytes (s .exact) (s .amount) (s .threshold) (s .mode) (eqb (s .protocol) 3 && contains pools (keyOf ks (s .pool))))
-      ≡ sets out at (legRow i (keyOf ks program) (legWith (keyOf ks) (known spent) (known bought) pools s))
+    (sets
+    (sets
+    (sets (set (sets out at (leBytes 4 i)) (at + 4) (s .protocol)) (at + 5)
+    (keyBytes (keyOf ks program) (keyOf ks (s .pool)) (keyOf ks (s .trader)) (keyOf ks (s .input)) (keyOf ks (s .output))))
+    (at + 165) (mintBytes (orElse (known spent) (explicit (s .paired) (keyOf ks (s .first))))))
+    (at + 198) (mintBytes (orElse (known bought) (explicit (s .paired) (keyOf ks (s .second))))))
+    (at + 231) (endBytes (s .exact) (s .amount) (s .threshold) (s .mode) (eqb (s .protocol) 3 && contains pools (keyOf ks (s .pool))))
+    ≡ sets out at (legRow i (keyOf ks program) (legWith (keyOf ks) (known spent) (known bought) pools s))
 unfolding legRow
 row-in out at i ks program spent bought pools s =
     let l = key-length ks in
@@ -84,6 +84,20 @@ row-in out at i ks program spent bought pools s =
     (l program) (l (s .pool)) (l (s .trader)) (l (s .input)) (l (s .output)))
     (mint-length spent (s .paired) (keyOf ks (s .first)) (l (s .first)))
     (mint-length bought (s .paired) (keyOf ks (s .second)) (l (s .second)))
+
+-- a leg's row has 250 bytes
+pub row-length : (i : ℕ) (ks : List ℕ) (program : ℕ) (spent bought : List ℕ) (pools : List Key) (s : Swap)
+    → length (legRow i (keyOf ks program) (legWith (keyOf ks) (known spent) (known bought) pools s)) ≡ 250
+unfolding legRow endBytes
+row-length i ks program spent bought pools s =
+    let l = key-length ks in
+    let k =
+    keys-length (keyOf ks program) (keyOf ks (s .pool)) (keyOf ks (s .trader)) (keyOf ks (s .input)) (keyOf ks (s .output)) (l program) (l (s .pool))
+    (l (s .trader)) (l (s .input)) (l (s .output))
+    in
+    let m = mint-length spent (s .paired) (keyOf ks (s .first)) (l (s .first)) in
+    let n = mint-length bought (s .paired) (keyOf ks (s .second)) (l (s .second)) in
+    simp (length-append, leBytes-length, k, m, n)
 
 module _ (s : List ℕ) (key : Key) (rows i : ℕ) where
   -- the next row is the key

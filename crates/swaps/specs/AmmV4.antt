@@ -20,6 +20,7 @@ ammV4Long tag n d =
     let shift : ℕ = cond (eqb n 17) 1 0 in
     both d 1 (λ first second. Leg (stated 4 1 (17 - shift) (15 - shift) (16 - shift) (eqb tag 9) first second))
 
+-- `swap` for RAYDIUM_AMM_V4_PROGRAM_ID: n accounts, data d
 unfoldable pub ammV4 : ℕ → List ℕ → Found
 ammV4 n d =
     let tag = getD d 0 0 in

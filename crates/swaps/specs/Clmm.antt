@@ -21,6 +21,7 @@ clmmLeg v2 exact amount threshold =
     let s = plain 5 2 0 3 4 exact amount threshold in
     cond v2 (pairing s 11 12) s
 
+-- `swap` for RAYDIUM_CLMM_PROGRAM_ID: n accounts, data d
 unfoldable pub clmm : ℕ → List ℕ → Found
 clmm n d =
     when (clmmTakes n d)

@@ -41,9 +41,11 @@ layout n d =
     cond (is d SWAP || is d SWAP-EXACT-OUT) (leb 15 n && leb 24 (length d))
     (cond (is d SWAP2 || is d SWAP-EXACT-OUT2) (leb 16 n && slicesFit n d) false)
 
+-- exact-out exchanges the two numbers
 abbrev pub dlmmLeg : List ℕ → Bool → Found
 dlmmLeg d exact = both d 8 (λ first second. Leg (stated 7 0 10 4 5 exact first second))
 
+-- `swap` for METEORA_DLMM_PROGRAM_ID: n accounts, data d
 unfoldable pub dlmm : ℕ → List ℕ → Found
 dlmm n d =
     when (layout n d) (cond (is d SWAP || is d SWAP2) (dlmmLeg d true) (when (is d SWAP-EXACT-OUT || is d SWAP-EXACT-OUT2) (dlmmLeg d false)))

@@ -23,6 +23,7 @@ launchLabLeg names a d buy exact =
     let input : ℕ = cond buy 6 5 in
     both d 8 (λ amount threshold. Leg (inMode (modeOf names (a 3)) (pairBy (same (a input) (a 6)) 10 9 (plain 2 4 0 input (cond buy 5 6) exact amount threshold))))
 
+-- `swap` for RAYDIUM_LAUNCHLAB_PROGRAM_ID: n accounts, a their keys, data d
 unfoldable pub launchLab : List ℕ → (ℕ → Key) → ℕ → List ℕ → Found
 launchLab names a n d =
     when (leb 15 n)

@@ -27,6 +27,7 @@ orcaV2 a direction exact amount threshold =
 abbrev pub orcaTakes : ℕ → List ℕ → Bool
 orcaTakes n d = (is d SWAP || is d SWAP-V2) && (isFlag d 41 && leb (cond (is d SWAP-V2) 15 11) n)
 
+-- `swap` for ORCA_WHIRLPOOL_PROGRAM_ID: n accounts, a their keys, data d
 unfoldable pub orca : (ℕ → Key) → ℕ → List ℕ → Found
 orca a n d =
     let direction = flag d 41 in

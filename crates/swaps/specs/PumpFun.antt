@@ -49,7 +49,8 @@ unfoldable pub pumpFunBy : Bool → Bool → Bool → Bool → Bool → ℕ → 
 pumpFunBy v2 v3 buy exact wrapped n d =
     when (pumpFunTakes v2 v3 buy n)
     (both d 8 (λ amount threshold. Leg
-        (cond v2 (pumpFunLeg wrapped 10 13 14 15 buy exact amount threshold) (pumpFunLeg wrapped 5 8 9 10 buy exact amount threshold))))
+    (cond v2 (pumpFunLeg wrapped 10 13 14 15 buy exact amount threshold) (pumpFunLeg wrapped 5 8 9 10 buy exact amount threshold))))
 
+-- `swap` for PUMPFUN_PROGRAM_ID: n accounts, a their keys, data d
 unfoldable pub pumpFun : (ℕ → Key) → ℕ → List ℕ → Found
 pumpFun a n d = pumpFunBy (isV2 d) (isV3 d) (isBuy d) (isExact d) (isWrapped (a 2)) n d

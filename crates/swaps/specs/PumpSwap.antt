@@ -29,6 +29,7 @@ pumpSwapLeg a d buy exact =
     when (trackVolume d buy)
     (both d 8 (λ amount threshold. Leg (pairBy (same (a input) (a 6)) 4 3 (plain 1 0 1 input (cond buy 5 6) exact amount threshold))))
 
+-- `swap` for PUMPSWAP_PROGRAM_ID: n accounts, a their keys, data d; BUY that is `BUY_EXACT_QUOTE_IN` is exact-in, BUY that is `SELL` a buy
 unfoldable pub pumpSwap : List ℕ → (ℕ → Key) → ℕ → List ℕ → Found
 pumpSwap names a n d =
     when (pumpSwapTakes n)

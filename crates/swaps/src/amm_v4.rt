@@ -26,7 +26,16 @@ fn short(tag: u8, data: &[u8]) -> Found
     if data.len() < 17 {
         return Found::Nothing;
     }
-    Found::Leg(stated(4, 1, 7, 5, 6, tag == 16, wire::u64_at(data, 1), wire::u64_at(data, 9)))
+    Found::Leg(stated(
+        4,
+        1,
+        7,
+        5,
+        6,
+        tag == 16,
+        wire::u64_at(data, 1),
+        wire::u64_at(data, 9),
+    ))
 }
 
 // Tags 9 and 11: with 17 accounts the last three stand one place earlier.
@@ -37,9 +46,27 @@ fn long(tag: u8, n: usize, data: &[u8]) -> Found
         return Found::Nothing;
     }
     if n == 17 {
-        Found::Leg(stated(4, 1, 16, 14, 15, tag == 9, wire::u64_at(data, 1), wire::u64_at(data, 9)))
+        Found::Leg(stated(
+            4,
+            1,
+            16,
+            14,
+            15,
+            tag == 9,
+            wire::u64_at(data, 1),
+            wire::u64_at(data, 9),
+        ))
     } else {
-        Found::Leg(stated(4, 1, 17, 15, 16, tag == 9, wire::u64_at(data, 1), wire::u64_at(data, 9)))
+        Found::Leg(stated(
+            4,
+            1,
+            17,
+            15,
+            16,
+            tag == 9,
+            wire::u64_at(data, 1),
+            wire::u64_at(data, 9),
+        ))
     }
 }
 

@@ -1,8 +1,13 @@
 // Raydium CLMM.
-use crate::discriminators::{SWAP, SWAP_V2};
-use crate::draft::{pairing, plain};
-use crate::fields::{flag, is, is_flag};
-use crate::{Found, Swap};
+use crate::Found;
+use crate::Swap;
+use crate::discriminators::SWAP;
+use crate::discriminators::SWAP_V2;
+use crate::draft::pairing;
+use crate::draft::plain;
+use crate::fields::flag;
+use crate::fields::is;
+use crate::fields::is_flag;
 ghost use mathlib.Core.Path.{_≡_};
 ghost use Rattle.swaps.specs.Clmm.{clmm, clmmTakes, clmmLeg};
 
@@ -39,5 +44,10 @@ pub fn leg(n: usize, data: &[u8]) -> Found
     if data.len() < 24 {
         return Found::Nothing;
     }
-    Found::Leg(draft(is(data, SWAP_V2), flag(data, 40), wire::u64_at(data, 8), wire::u64_at(data, 16)))
+    Found::Leg(draft(
+        is(data, SWAP_V2),
+        flag(data, 40),
+        wire::u64_at(data, 8),
+        wire::u64_at(data, 16),
+    ))
 }

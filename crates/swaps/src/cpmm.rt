@@ -1,6 +1,7 @@
 // Raydium CPMM. Its two discriminators are lent in the names.
 use crate::Found;
-use crate::draft::{pairing, stated};
+use crate::draft::pairing;
+use crate::draft::stated;
 use crate::fields::is;
 ghost use mathlib.Core.Path.{_≡_};
 ghost use Rattle.swaps.specs.Cpmm.{cpmm, cpmmLeg};
@@ -11,7 +12,20 @@ fn draft(data: &[u8], exact: bool) -> Found
     if data.len() < 24 {
         return Found::Nothing;
     }
-    Found::Leg(pairing(stated(3, 3, 0, 4, 5, exact, wire::u64_at(data, 8), wire::u64_at(data, 16)), 10, 11))
+    Found::Leg(pairing(
+        stated(
+            3,
+            3,
+            0,
+            4,
+            5,
+            exact,
+            wire::u64_at(data, 8),
+            wire::u64_at(data, 16),
+        ),
+        10,
+        11,
+    ))
 }
 
 pub fn leg(names: &[u8], n: usize, data: &[u8]) -> Found

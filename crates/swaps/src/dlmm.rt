@@ -1,6 +1,9 @@
 // Meteora DLMM.
 use crate::Found;
-use crate::discriminators::{SWAP, SWAP2, SWAP_EXACT_OUT, SWAP_EXACT_OUT2};
+use crate::discriminators::SWAP;
+use crate::discriminators::SWAP_EXACT_OUT;
+use crate::discriminators::SWAP_EXACT_OUT2;
+use crate::discriminators::SWAP2;
 use crate::draft::stated;
 use crate::fields::is_either;
 ghost use mathlib.Core.Path.{_≡_};
@@ -92,7 +95,16 @@ fn draft(data: &[u8], exact: bool) -> Found
     if data.len() < 24 {
         return Found::Nothing;
     }
-    Found::Leg(stated(7, 0, 10, 4, 5, exact, wire::u64_at(data, 8), wire::u64_at(data, 16)))
+    Found::Leg(stated(
+        7,
+        0,
+        10,
+        4,
+        5,
+        exact,
+        wire::u64_at(data, 8),
+        wire::u64_at(data, 16),
+    ))
 }
 
 pub fn leg(n: usize, data: &[u8]) -> Found

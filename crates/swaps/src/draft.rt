@@ -4,18 +4,27 @@ ghost use mathlib.Core.Path.{_≡_};
 ghost use Rattle.swaps.specs.Draft.{plain as plainOf, stated as statedOf, pairing as pairingOf, pairBy, inMode};
 
 // A leg with no explicit pair of mints and no mode.
-pub fn plain(protocol: u8, pool: u8, trader: u8, input: u8, output: u8, exact: bool, amount: u64, threshold: u64) -> Swap
+pub fn plain(
+    protocol: u8,
+    pool: u8,
+    trader: u8,
+    input: u8,
+    output: u8,
+    exact: bool,
+    amount: u64,
+    threshold: u64,
+) -> Swap
     ensures { λ r. ⌜ r ≡ plainOf protocol pool trader input output exact amount threshold ⌝ }
 {
     Swap {
-        protocol: protocol,
-        pool: pool,
-        trader: trader,
-        input: input,
-        output: output,
-        exact: exact,
-        amount: amount,
-        threshold: threshold,
+        protocol,
+        pool,
+        trader,
+        input,
+        output,
+        exact,
+        amount,
+        threshold,
         mode: 0,
         paired: false,
         first: 0,
@@ -24,7 +33,16 @@ pub fn plain(protocol: u8, pool: u8, trader: u8, input: u8, output: u8, exact: b
 }
 
 // The same where exact-out exchanges the two numbers.
-pub fn stated(protocol: u8, pool: u8, trader: u8, input: u8, output: u8, exact: bool, first: u64, second: u64) -> Swap
+pub fn stated(
+    protocol: u8,
+    pool: u8,
+    trader: u8,
+    input: u8,
+    output: u8,
+    exact: bool,
+    first: u64,
+    second: u64,
+) -> Swap
     ensures { λ r. ⌜ r ≡ statedOf protocol pool trader input output exact first second ⌝ }
 {
     if exact {
@@ -58,7 +76,11 @@ pub fn pairing(s: Swap, x: u8, y: u8) -> Swap
 pub fn pair_by(test: bool, x: u8, y: u8, s: Swap) -> Swap
     ensures { λ r. ⌜ r ≡ pairBy test x y s ⌝ }
 {
-    if test { pairing(s, x, y) } else { pairing(s, y, x) }
+    if test {
+        pairing(s, x, y)
+    } else {
+        pairing(s, y, x)
+    }
 }
 
 // With a mode.
@@ -74,7 +96,7 @@ pub fn in_mode(mode: u8, s: Swap) -> Swap
         exact: s.exact,
         amount: s.amount,
         threshold: s.threshold,
-        mode: mode,
+        mode,
         paired: s.paired,
         first: s.first,
         second: s.second,

@@ -60,5 +60,8 @@ pub fn same_account(keys: &[u8], accounts: &[u8], x: usize, y: usize) -> bool
     ensures { λ r. ⌜ r ≡ same (accountOf (keyOf (now (keys .entry))) (now (accounts .entry)) x) (accountOf (keyOf (now (keys .entry))) (now (accounts .entry)) y) ⌝ }
 {
     let blank = [0u8; 32];
-    wire::equal(account(keys, &blank, accounts, x), account(keys, &blank, accounts, y))
+    wire::equal(
+        account(keys, &blank, accounts, x),
+        account(keys, &blank, accounts, y),
+    )
 }

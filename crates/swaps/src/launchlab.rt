@@ -1,8 +1,15 @@
 // Raydium LaunchLab.
 use crate::Found;
-use crate::discriminators::{BUY_EXACT_IN, BUY_EXACT_OUT, SELL_EXACT_IN, SELL_EXACT_OUT};
-use crate::draft::{in_mode, pair_by, plain};
-use crate::fields::{account, is, same_account};
+use crate::discriminators::BUY_EXACT_IN;
+use crate::discriminators::BUY_EXACT_OUT;
+use crate::discriminators::SELL_EXACT_IN;
+use crate::discriminators::SELL_EXACT_OUT;
+use crate::draft::in_mode;
+use crate::draft::pair_by;
+use crate::draft::plain;
+use crate::fields::account;
+use crate::fields::is;
+use crate::fields::same_account;
 ghost use mathlib.Core.Path.{_≡_};
 ghost use lib.ListN.{length, take, drop};
 ghost use Rattle.ids.specs.Keys.{keyOf, account as accountOf};
@@ -53,9 +60,13 @@ fn draft(names: &[u8], keys: &[u8], accounts: &[u8], data: &[u8], buy: bool, exa
     let threshold = wire::u64_at(data, 16);
     let mode = mode_of(names, keys, accounts);
     if buy {
-        Found::Leg(in_mode(mode, pair_by(same_account(keys, accounts, 6, 6), 10, 9, plain(2, 4, 0, 6, 5, exact, amount, threshold))))
+        let same = same_account(keys, accounts, 6, 6);
+        let s = plain(2, 4, 0, 6, 5, exact, amount, threshold);
+        Found::Leg(in_mode(mode, pair_by(same, 10, 9, s)))
     } else {
-        Found::Leg(in_mode(mode, pair_by(same_account(keys, accounts, 5, 6), 10, 9, plain(2, 4, 0, 5, 6, exact, amount, threshold))))
+        let same = same_account(keys, accounts, 5, 6);
+        let s = plain(2, 4, 0, 5, 6, exact, amount, threshold);
+        Found::Leg(in_mode(mode, pair_by(same, 10, 9, s)))
     }
 }
 

@@ -1,8 +1,15 @@
 // Orca Whirlpool.
-use crate::discriminators::{SWAP, SWAP_V2};
-use crate::draft::{pair_by, plain};
-use crate::fields::{flag, is, is_either, is_flag, same_account};
-use crate::{Found, Swap};
+use crate::Found;
+use crate::Swap;
+use crate::discriminators::SWAP;
+use crate::discriminators::SWAP_V2;
+use crate::draft::pair_by;
+use crate::draft::plain;
+use crate::fields::flag;
+use crate::fields::is;
+use crate::fields::is_either;
+use crate::fields::is_flag;
+use crate::fields::same_account;
 ghost use mathlib.Core.Path.{_≡_};
 ghost use lib.ListN.{length};
 ghost use Rattle.ids.specs.Keys.{keyOf, account};
@@ -36,13 +43,22 @@ fn v1(direction: bool, exact: bool, amount: u64, threshold: u64) -> Swap
 }
 
 // `swap_v2`: the pair goes by the input's key, so equal token accounts flip it.
-fn v2(keys: &[u8], accounts: &[u8], direction: bool, exact: bool, amount: u64, threshold: u64) -> Swap
+fn v2(
+    keys: &[u8],
+    accounts: &[u8],
+    direction: bool,
+    exact: bool,
+    amount: u64,
+    threshold: u64,
+) -> Swap
     ensures { λ r. ⌜ r ≡ orcaV2 (account (keyOf (now (keys .entry))) (now (accounts .entry))) direction exact amount threshold ⌝ }
 {
     if direction {
-        pair_by(same_account(keys, accounts, 7, 7), 5, 6, plain(6, 4, 3, 7, 9, exact, amount, threshold))
+        let same = same_account(keys, accounts, 7, 7);
+        pair_by(same, 5, 6, plain(6, 4, 3, 7, 9, exact, amount, threshold))
     } else {
-        pair_by(same_account(keys, accounts, 9, 7), 5, 6, plain(6, 4, 3, 9, 7, exact, amount, threshold))
+        let same = same_account(keys, accounts, 9, 7);
+        pair_by(same, 5, 6, plain(6, 4, 3, 9, 7, exact, amount, threshold))
     }
 }
 
@@ -61,7 +77,14 @@ pub fn leg(keys: &[u8], accounts: &[u8], data: &[u8]) -> Found
     let amount = wire::u64_at(data, 8);
     let threshold = wire::u64_at(data, 16);
     if is(data, SWAP_V2) {
-        Found::Leg(v2(keys, accounts, flag(data, 41), flag(data, 40), amount, threshold))
+        Found::Leg(v2(
+            keys,
+            accounts,
+            flag(data, 41),
+            flag(data, 40),
+            amount,
+            threshold,
+        ))
     } else {
         Found::Leg(v1(flag(data, 41), flag(data, 40), amount, threshold))
     }

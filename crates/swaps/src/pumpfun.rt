@@ -1,8 +1,16 @@
 // PumpFun.
-use crate::discriminators::{BUY_EXACT_QUOTE_IN_V2, BUY_EXACT_QUOTE_IN_V3, BUY_V2, BUY_V3, SELL_V2, SELL_V3};
-use crate::draft::{pair_by, plain};
-use crate::fields::{account, is};
-use crate::{Found, Swap};
+use crate::Found;
+use crate::Swap;
+use crate::discriminators::BUY_EXACT_QUOTE_IN_V2;
+use crate::discriminators::BUY_EXACT_QUOTE_IN_V3;
+use crate::discriminators::BUY_V2;
+use crate::discriminators::BUY_V3;
+use crate::discriminators::SELL_V2;
+use crate::discriminators::SELL_V3;
+use crate::draft::pair_by;
+use crate::draft::plain;
+use crate::fields::account;
+use crate::fields::is;
 ghost use mathlib.Core.Path.{_≡_};
 ghost use mathlib.Core.Bool.{cond, not, _&&_, _||_};
 ghost use lib.ListN.{length};
@@ -88,11 +96,35 @@ fn choose(test: bool, x: u8, y: u8) -> u8
     if test { x } else { y }
 }
 
-fn draft(wrapped: bool, pool: u8, user: u8, base: u8, quote: u8, buy: bool, exact: bool, amount: u64, threshold: u64) -> Swap
+fn draft(
+    wrapped: bool,
+    pool: u8,
+    user: u8,
+    base: u8,
+    quote: u8,
+    buy: bool,
+    exact: bool,
+    amount: u64,
+    threshold: u64,
+) -> Swap
     ensures { λ r. ⌜ r ≡ pumpFunLeg wrapped pool user base quote buy exact amount threshold ⌝ }
 {
     let money = choose(wrapped, user, quote);
-    pair_by(buy, 2, 1, plain(8, pool, user, choose(buy, money, base), choose(buy, base, money), exact, amount, threshold))
+    pair_by(
+        buy,
+        2,
+        1,
+        plain(
+            8,
+            pool,
+            user,
+            choose(buy, money, base),
+            choose(buy, base, money),
+            exact,
+            amount,
+            threshold,
+        ),
+    )
 }
 
 // By the form, and whether the quote is wrapped SOL.
@@ -117,5 +149,13 @@ fn by(v2: bool, v3: bool, buy: bool, exact: bool, sol: bool, n: usize, data: &[u
 pub fn leg(keys: &[u8], accounts: &[u8], data: &[u8]) -> Found
     ensures { λ r. ⌜ r ≡ pumpFun (accountOf (keyOf (now (keys .entry))) (now (accounts .entry))) (length (now (accounts .entry))) (now («data» .entry)) ⌝ }
 {
-    by(is_v2(data), is_v3(data), is_buy(data), is_exact(data), wrapped(keys, accounts), accounts.len(), data)
+    by(
+        is_v2(data),
+        is_v3(data),
+        is_buy(data),
+        is_exact(data),
+        wrapped(keys, accounts),
+        accounts.len(),
+        data,
+    )
 }

@@ -1,8 +1,15 @@
 // PumpSwap. `BUY` is lent in the names.
 use crate::Found;
-use crate::discriminators::{BUY_EXACT_QUOTE_IN, BUY_EXACT_QUOTE_IN_V2, BUY_V2, SELL, SELL_V2};
-use crate::draft::{pair_by, plain};
-use crate::fields::{is_either, is_flag, same_account};
+use crate::discriminators::BUY_EXACT_QUOTE_IN;
+use crate::discriminators::BUY_EXACT_QUOTE_IN_V2;
+use crate::discriminators::BUY_V2;
+use crate::discriminators::SELL;
+use crate::discriminators::SELL_V2;
+use crate::draft::pair_by;
+use crate::draft::plain;
+use crate::fields::is_either;
+use crate::fields::is_flag;
+use crate::fields::same_account;
 ghost use mathlib.Core.Path.{_≡_};
 ghost use lib.ListN.{length};
 ghost use Rattle.ids.specs.Keys.{keyOf, account as accountOf};
@@ -44,9 +51,11 @@ fn draft(keys: &[u8], accounts: &[u8], data: &[u8], buy: bool, exact: bool) -> F
     let amount = wire::u64_at(data, 8);
     let threshold = wire::u64_at(data, 16);
     if buy {
-        Found::Leg(pair_by(same_account(keys, accounts, 6, 6), 4, 3, plain(1, 0, 1, 6, 5, exact, amount, threshold)))
+        let same = same_account(keys, accounts, 6, 6);
+        Found::Leg(pair_by(same, 4, 3, plain(1, 0, 1, 6, 5, exact, amount, threshold)))
     } else {
-        Found::Leg(pair_by(same_account(keys, accounts, 5, 6), 4, 3, plain(1, 0, 1, 5, 6, exact, amount, threshold)))
+        let same = same_account(keys, accounts, 5, 6);
+        Found::Leg(pair_by(same, 4, 3, plain(1, 0, 1, 5, 6, exact, amount, threshold)))
     }
 }
 

@@ -52,7 +52,16 @@ fn put_key(out: &mut [u8], at: usize, keys: &[u8], index: usize)
 }
 
 // The five keys.
-fn put_keys(out: &mut [u8], at: usize, keys: &[u8], program: usize, pool: u8, trader: u8, input: u8, output: u8)
+fn put_keys(
+    out: &mut [u8],
+    at: usize,
+    keys: &[u8],
+    program: usize,
+    pool: u8,
+    trader: u8,
+    input: u8,
+    output: u8,
+)
     ensures { λ _. ⌜ now (out .exit) ≡ sets (now (out .entry)) at (keyBytes (keyOf (now (keys .entry)) program) (keyOf (now (keys .entry)) pool) (keyOf (now (keys .entry)) trader) (keyOf (now (keys .entry)) input) (keyOf (now (keys .entry)) output)) ⌝ }
 {
     if out.len() <= at {
@@ -112,11 +121,25 @@ fn put_side(out: &mut [u8], at: usize, known: &[u8], keys: &[u8], paired: bool, 
     ensures { λ _. ⌜ now (out .exit) ≡ sets (now (out .entry)) at (mintBytes (orElse (knownOf (now (known .entry))) (explicit paired (keyOf (now (keys .entry)) index)))) ⌝ }
 {
     let blank = [0u8; 32];
-    put_mint(out, at, known, paired, ids::key(keys, &blank, index as usize));
+    put_mint(
+        out,
+        at,
+        known,
+        paired,
+        ids::key(keys, &blank, index as usize),
+    );
 }
 
 // What follows the mints.
-fn put_end(out: &mut [u8], at: usize, exact: bool, amount: u64, threshold: u64, mode: u8, graduated: bool)
+fn put_end(
+    out: &mut [u8],
+    at: usize,
+    exact: bool,
+    amount: u64,
+    threshold: u64,
+    mode: u8,
+    graduated: bool,
+)
     ensures { λ _. ⌜ now (out .exit) ≡ sets (now (out .entry)) at (endBytes exact amount threshold mode graduated) ⌝ }
 {
     if out.len() <= at {
@@ -131,7 +154,17 @@ fn put_end(out: &mut [u8], at: usize, exact: bool, amount: u64, threshold: u64, 
 
 // The row at `at`: the invocation's number, its program's index, its leg as `leg` answers it, the mints known of the input account and of the output
 // account (32 bytes each, all zero if none is known), and the graduated pools.
-pub fn put_leg(out: &mut [u8], at: usize, invocation: u32, program: usize, keys: &[u8], leg: Swap, spent: &[u8], bought: &[u8], pools: &[u8])
+pub fn put_leg(
+    out: &mut [u8],
+    at: usize,
+    invocation: u32,
+    program: usize,
+    keys: &[u8],
+    leg: Swap,
+    spent: &[u8],
+    bought: &[u8],
+    pools: &[u8],
+)
     ensures { λ _. ⌜ now (out .exit) ≡ sets (now (out .entry)) at (legRow invocation (keyOf (now (keys .entry)) program) (legWith (keyOf (now (keys .entry))) (knownOf (now (spent .entry))) (knownOf (now (bought .entry))) (poolsOf (now (pools .entry))) leg)) ⌝ }
 {
     if out.len() <= at {
@@ -139,8 +172,25 @@ pub fn put_leg(out: &mut [u8], at: usize, invocation: u32, program: usize, keys:
     }
     wire::put_u32(out, at, invocation);
     wire::put_byte(out, at + 4, leg.protocol);
-    put_keys(out, at + 5, keys, program, leg.pool, leg.trader, leg.input, leg.output);
+    put_keys(
+        out,
+        at + 5,
+        keys,
+        program,
+        leg.pool,
+        leg.trader,
+        leg.input,
+        leg.output,
+    );
     put_side(out, at + 165, spent, keys, leg.paired, leg.first);
     put_side(out, at + 198, bought, keys, leg.paired, leg.second);
-    put_end(out, at + 231, leg.exact, leg.amount, leg.threshold, leg.mode, graduated(leg.protocol, keys, leg.pool, pools));
+    put_end(
+        out,
+        at + 231,
+        leg.exact,
+        leg.amount,
+        leg.threshold,
+        leg.mode,
+        graduated(leg.protocol, keys, leg.pool, pools),
+    );
 }

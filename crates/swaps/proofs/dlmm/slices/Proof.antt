@@ -28,7 +28,7 @@ loop-holds c = (omega arith, omega arith, simp sub-zero)
 
 -- src/dlmm.rt:35:13
 returns : tie.Need-returns Inv-loop μ-loop
-returns c = 
+returns c =
     let l = c .before .before .loop in
     let a = c .before .before .before .before .args in
     let d = a .«data» .now in
@@ -44,7 +44,7 @@ tag-size-requires c κs = tt
 
 -- src/dlmm.rt:39:13
 returns-2 : tie.Need-returns-2 Inv-loop μ-loop
-returns-2 c = 
+returns-2 c =
     let l = c .before .before .before .before .before .loop in
     let a = c .before .before .before .before .before .before .before .args in
     let d = a .«data» .now in
@@ -53,7 +53,7 @@ returns-2 c =
 
 -- src/dlmm.rt:41:26
 add-if3 : tie.Need-add-if3 Inv-loop μ-loop
-add-if3 c = 
+add-if3 c =
     let l = c .before .before .before .before .before .loop in
     let a = c .before .before .before .before .before .before .before .args in
     let d = a .«data» .now in
@@ -62,7 +62,7 @@ add-if3 c =
 
 -- src/dlmm.rt:42:13
 returns-3 : tie.Need-returns-3 Inv-loop μ-loop
-returns-3 c = 
+returns-3 c =
     let l = c .before .before .before .before .before .before .loop in
     let a = c .before .before .before .before .before .before .before .before .args in
     let d = a .«data» .now in
@@ -71,7 +71,7 @@ returns-3 c =
 
 -- src/dlmm.rt:44:39
 add-byte : tie.Need-add-byte Inv-loop μ-loop
-add-byte c = 
+add-byte c =
     let l = c .before .before .before .before .before .before .loop in
     let a = c .before .before .before .before .before .before .before .before .args in
     let d = a .«data» .now in
@@ -92,7 +92,7 @@ sub-if4 c = omega arith
 
 -- src/dlmm.rt:46:13
 returns-4 : tie.Need-returns-4 Inv-loop μ-loop
-returns-4 c = 
+returns-4 c =
     let l = c .before .before .before .before .before .before .before .before .loop in
     let a = c .before .before .before .before .before .before .before .before .before .before .args in
     let d = a .«data» .now in
@@ -107,7 +107,7 @@ add-used c = omega arith
 
 -- src/dlmm.rt:49:14
 add-at : tie.Need-add-at Inv-loop μ-loop
-add-at c = 
+add-at c =
     let l = c .before .before .before .before .before .before .before .before .loop in
     let a = c .before .before .before .before .before .before .before .before .before .before .args in
     let d = a .«data» .now in
@@ -116,7 +116,7 @@ add-at c =
 
 -- src/dlmm.rt:49:14
 add-at-2 : tie.Need-add-at-2 Inv-loop μ-loop
-add-at-2 c = 
+add-at-2 c =
     let l = c .before .before .before .before .before .before .before .before .loop in
     let a = c .before .before .before .before .before .before .before .before .before .before .args in
     let d = a .«data» .now in
@@ -133,7 +133,7 @@ loop-less c = omega arith
 
 -- src/dlmm.rt:33:5
 loop-again : tie.Need-loop-again Inv-loop μ-loop
-loop-again c = 
+loop-again c =
     let l = c .before .before .before .before .before .before .before .before .loop in
     let a = c .before .before .before .before .before .before .before .before .before .before .args in
     let d = a .«data» .now in
@@ -146,7 +146,7 @@ loop-again c =
 
 -- src/dlmm.rt:27:1
 returns-5 : tie.Need-returns-5 Inv-loop μ-loop
-returns-5 c = 
+returns-5 c =
     let l = c .before .loop in
     let a = c .before .before .before .args in
     let d = a .«data» .now in

@@ -36,7 +36,7 @@ part-result-end c = search needs
 
 -- src/launchlab.rt:19:9
 returns-2 : tie.Need-returns-2
-returns-2 c = 
+returns-2 c =
     let a = c .before .before .before .args in
     let t = drop (a .at) (a .names .now) in
     take-all (length (a .names .now) - a .at) t (simp length-drop (omega arith)) ∙ sym (take-all 32 t (simp length-drop (omega arith)))

@@ -50,7 +50,7 @@ equal-requires c κs = tt
 
 -- src/row.rt:21:13
 returns : tie.Need-returns Inv-loop μ-loop
-returns c = 
+returns c =
     let l = c .before .before .before .before .loop in
     let a = c .before .before .before .before .before .before .before .args in
     sym (pool-here (a .pools .now) (a .key .now) (length (a .pools .now) / 32) (l .i) (omega arith) (sym (rw add-sub-cancel-left at (c .before .equal .ensures)) ∙ c .if1 .taken)) ∙ l .inv .1
@@ -65,14 +65,14 @@ loop-less c = omega arith
 
 -- src/row.rt:18:5
 loop-again : tie.Need-loop-again Inv-loop μ-loop
-loop-again c = 
+loop-again c =
     let l = c .before .before .before .before .loop in
     let a = c .before .before .before .before .before .before .before .args in
     (omega arith, pool-on (a .pools .now) (a .key .now) (length (a .pools .now) / 32) (l .i) (omega arith) (sym (rw add-sub-cancel-left at (c .before .equal .ensures)) ∙ c .if1 .left) ∙ l .inv .1)
 
 -- src/row.rt:13:1
 returns-2 : tie.Need-returns-2 Inv-loop μ-loop
-returns-2 c = 
+returns-2 c =
     let l = c .before .loop in
     let a = c .before .before .before .before .args in
     sym (pool-none (a .pools .now) (a .key .now) (length (a .pools .now) / 32) (l .i) (omega arith)) ∙ l .inv .1

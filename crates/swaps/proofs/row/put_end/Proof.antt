@@ -14,7 +14,7 @@ use Rattle.wire.proofs.put_u64.Reads as put-u64-reads
 
 -- src/row.rt:115:9
 returns : tie.Need-returns
-returns c = 
+returns c =
     let h = c .if1 .taken in
     rw sets-past
 

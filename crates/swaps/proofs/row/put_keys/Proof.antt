@@ -12,7 +12,7 @@ use Rattle.swaps.proofs.row.put_key.Reads as put-key-reads
 
 -- src/row.rt:59:9
 returns : tie.Need-returns
-returns c = 
+returns c =
     let h = c .if1 .taken in
     rw sets-past
 

@@ -16,7 +16,7 @@ use Rattle.wire.proofs.put_u32.Reads as put-u32-reads
 
 -- src/row.rt:138:9
 returns : tie.Need-returns
-returns c = 
+returns c =
     let h = c .if1 .taken in
     rw sets-past
 
@@ -74,7 +74,7 @@ same-length c = search needs
 
 -- src/row.rt:134:1
 returns-2 : tie.Need-returns-2
-returns-2 c = 
+returns-2 c =
     let a = c .before .before .before .before .before .before .before .before .before .before .before .before .before .before .before .before .before .before .before .before .before .before .before .before .before .before .before .before .before .before .before .args in
     rw (c .before .before .put-end .ensures, c .before .before .before .graduated .ensures, c .before .before .before .before .before .before .before .put-side2 .ensures, c .before .before .before .before .before .before .before .before .before .before .before .put-side .ensures, c .before .before .before .before .before .before .before .before .before .before .before .before .before .before .before .put-keys .ensures, c .before .before .before .before .before .before .before .before .before .before .before .before .before .before .before .before .before .before .before .put-byte .ensures, c .before .before .before .before .before .before .before .before .before .before .before .before .before .before .before .before .before .before .before .before .before .before .before .put-u32 .ensures)
     (row-in (a .out .now) (a .at) (a .invocation) (a .keys .now) (a .program) (a .spent .now) (a .bought .now) (poolsOf (a .pools .now)) (a .leg))

@@ -11,7 +11,7 @@ use Rattle.wire.proofs.put_byte.Reads as put-byte-reads
 
 -- src/row.rt:84:9
 returns : tie.Need-returns
-returns c = 
+returns c =
     let h = c .if1 .taken in
     rw sets-past
 
