@@ -15,11 +15,12 @@ use Rattle.evidence.specs.Evidence.{Evidence}
 use Rattle.evidence.specs.Passes.{Transfers}
 use Rattle.evidence.specs.MintTable.{MintRow, Answer}
 use Rattle.route.specs.Mints.{evidenceOf, plainsOf, mintsOf}
+use Rattle.route.specs.Tables.{instructionsOf}
 use Rattle.route.specs.Route.{Routed}
 
 -- the kept invocations of a pack without their positions: program index, accounts, data
 abbrev pub instructionsIn : List ℕ → List Instruction
-instructionsIn p = map (λ v. v .instruction) (flatten (viewOf p))
+instructionsIn p = instructionsOf (flatten (viewOf p))
 
 -- all that a pack says of mints
 abbrev pub evidenceIn : List ℕ → Evidence
