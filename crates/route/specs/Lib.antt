@@ -1,10 +1,12 @@
 pub mod Lay
-pub mod Row
-pub mod Program
-pub mod Arrays
 pub mod Mints
 pub mod Known
 pub mod Transfers
-pub mod Actions
-pub mod Order
 pub mod Legs
+pub mod Actions
+pub mod Program
+pub mod Row
+pub mod Tables
+pub mod Route
+pub mod Arrays
+pub mod Order

@@ -6,3 +6,17 @@ mod actions;
 mod invocations;
 mod legs;
 mod transfers;
+
+// Number 0 for a success, else a refusal and its place; the rows of each table, the passes over the plain transfers, the calls of `descendant`.
+#[repr(C)]
+pub struct Answer {
+    pub number: u32,
+    pub place: u32,
+    pub mints: u32,
+    pub invocations: u32,
+    pub transfers: u32,
+    pub legs: u32,
+    pub natives: u32,
+    pub passes: u32,
+    pub tests: u32,
+}
