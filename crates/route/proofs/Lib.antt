@@ -2,5 +2,10 @@ pub mod Rows
 pub mod Row
 pub mod Moving
 pub mod Acting
+pub mod OrderKeys
+pub mod OrderTable
+pub mod OrderMints
+pub mod OrderWays
+pub mod Order
 pub mod Legging
 pub mod Fitting

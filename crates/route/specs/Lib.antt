@@ -10,3 +10,4 @@ pub mod Tables
 pub mod Route
 pub mod Fit
 pub mod Arrays
+pub mod Order
