@@ -1,11 +1,13 @@
+pub mod Lists
 pub mod Rows
 pub mod Row
 pub mod Moving
 pub mod Acting
+pub mod Legging
+pub mod Fitting
+pub mod Assembled
 pub mod OrderKeys
 pub mod OrderTable
 pub mod OrderMints
 pub mod OrderWays
 pub mod Order
-pub mod Legging
-pub mod Fitting

@@ -20,7 +20,7 @@ pub record Rowed (w : ℕ) (l : List (List ℕ)) : Type 0 where
   pub each : (r : List ℕ) → List·Memᴰ r l → length r ≡ w
 
 -- rows one after the other
-flat : List (List ℕ) → List ℕ
+unfoldable pub flat : List (List ℕ) → List ℕ
 flat [] = []
 flat (r ∷ l) = r ++ flat l
 
@@ -36,7 +36,7 @@ module _ (w : ℕ) where
   flat-length [] h = sym (zero-mul w)
   flat-length (r ∷ l) h = rw (length-append r (flat l), flat-length l (tail h), suc-mul) (omega (arith, first h))
 
-  placed-flat : (k : ℕ) (l : List (List ℕ)) (t : List ℕ) → Rowed w l → placed w k l t ≡ sets t (k * w) (flat l)
+  pub placed-flat : (k : ℕ) (l : List (List ℕ)) (t : List ℕ) → Rowed w l → placed w k l t ≡ sets t (k * w) (flat l)
   unfolding placed flat
   placed-flat k [] t h = refl
   placed-flat k (r ∷ l) t h =
