@@ -1,4 +1,4 @@
-use Rattle.natives.proofs.Rows.{fields}
+use Rattle.natives.proofs.Fields.{fields}
 use borrow.Author.Needs.{needs}
 use Rattle.natives.proofs.put_fields.Statement.{statement}
 use Rattle.natives.proofs.put_fields.Tie as tie

@@ -1,10 +1,10 @@
 use mathlib.Core.Path.{_∙_}
 use Rattle.ids.specs.Keys.{zeroKey}
 use borrow.Author.Needs.{needs}
-use Rattle.token.proofs.put_key.Statement.{statement}
-use Rattle.token.proofs.put_key.Tie as tie
-use Rattle.token.proofs.put_key.Reads as reads
-use Rattle.token.proofs.put_key.Lts as lts
+use Rattle.token.proofs.row.put_key.Statement.{statement}
+use Rattle.token.proofs.row.put_key.Tie as tie
+use Rattle.token.proofs.row.put_key.Reads as reads
+use Rattle.token.proofs.row.put_key.Lts as lts
 use Rattle.ids.proofs.key.Reads as key-reads
 use Rattle.wire.proofs.put.Reads as put-reads
 

@@ -5,11 +5,11 @@ use Rattle.token.specs.Rows.{mintOf, rowOf, rowsOf}
 use Rattle.wire.specs.Le.{leBytes}
 use Rattle.wire.specs.Sets.{sets-past}
 use borrow.Author.Needs.{needs}
-use Rattle.token.proofs.put_row.Statement.{statement}
-use Rattle.token.proofs.put_row.Tie as tie
-use Rattle.token.proofs.put_row.Reads as reads
-use Rattle.token.proofs.put_row.Lts as lts
-use Rattle.token.proofs.put_fields.Reads as put-fields-reads
+use Rattle.token.proofs.row.put_row.Statement.{statement}
+use Rattle.token.proofs.row.put_row.Tie as tie
+use Rattle.token.proofs.row.put_row.Reads as reads
+use Rattle.token.proofs.row.put_row.Lts as lts
+use Rattle.token.proofs.row.put_fields.Reads as put-fields-reads
 
 -- src/lib.rt:258:9
 returns : tie.Need-returns

@@ -3,11 +3,11 @@ use native.Mathlib.Numerals.{add-one}
 use Rattle.token.specs.Rows.{mintOf, mintField}
 use Rattle.wire.specs.Sets.{sets-past}
 use borrow.Author.Needs.{needs}
-use Rattle.token.proofs.put_mint.Statement.{statement}
-use Rattle.token.proofs.put_mint.Tie as tie
-use Rattle.token.proofs.put_mint.Reads as reads
-use Rattle.token.proofs.put_mint.Lts as lts
-use Rattle.token.proofs.known.Reads as known-reads
+use Rattle.token.proofs.row.put_mint.Statement.{statement}
+use Rattle.token.proofs.row.put_mint.Tie as tie
+use Rattle.token.proofs.row.put_mint.Reads as reads
+use Rattle.token.proofs.row.put_mint.Lts as lts
+use Rattle.token.proofs.row.known.Reads as known-reads
 use Rattle.wire.proofs.put.Reads as put-reads
 use Rattle.wire.proofs.put_byte.Reads as put-byte-reads
 

@@ -10,11 +10,15 @@ use lib.Dec.{ltb, eqb}
 use lib.ListN.{length, set, take, drop, length-append, length-take, length-drop}
 use lib.Seq.{sets}
 use borrow.Author.Tests.{ltb-true, eqb-true}
+use Rattle.wire.proofs.Laws.{leBytes-length}
 use Rattle.wire.specs.Sets.{sets-next}
 use Rattle.wire.specs.Below.{and-left}
 use Rattle.ids.specs.Keys.{Key, zeroKey, keyCount, keyOf}
-use Rattle.token.specs.Transfers.{isZero}
-use Rattle.token.specs.Rows.{mintOf, mintField}
+use Rattle.token.specs.Transfers.{Transfer, isZero, given}
+use Rattle.token.specs.Rows.{mintOf, mintField, feeField, rowOf, rowsOf}
+use Rattle.token.specs.Moved.{valueOf}
+use Rattle.token.specs.declared.Moved.{Moved}
+use Rattle.token.specs.declared.Moved.the-variants.{Nothing, FeeUnknown, FeeKnown}
 
 -- a key that is looked up has 32 bytes
 pub key-length : (ks : List ℕ) (i : ℕ) → length (keyOf ks i) ≡ 32
@@ -47,3 +51,21 @@ fields l at i p s d m a f told hi hp hs hd hm ha =
       sets-next l at (i ++ p ++ s ++ d ++ m) a (at + 133) (simp length-append (omega arith)),
     )
     (sets-next l at (i ++ p ++ s ++ d ++ m ++ a) (told ∷ f) (at + 141) (simp length-append (omega arith)))
+
+fee-length : (f : Option ℕ) → length (feeField f) ≡ 9
+fee-length none = refl
+fee-length (some f) = ap suc (leBytes-length 8 f)
+
+-- a row has 150 bytes
+pub row-length : (i : ℕ) (p : Key) (m : Option Key) (t : Transfer) → length p ≡ 32 → length (mintField m) ≡ 33 → length (t .source) ≡ 32 → length (t .destination) ≡ 32 → length (rowOf i p m t) ≡ 150
+unfolding rowOf
+row-length i p m t hp hm hs hd =
+    simp (length-append, leBytes-length, hp, hs, hd, hm, fee-length (t .fee))
+
+-- what an instruction adds to the table: rows of 150 bytes
+pub rows-length : (ks : List ℕ) (i p : ℕ) (m : List ℕ) (r : Moved) → length (rowsOf i (keyOf ks p) (mintOf m) (valueOf (keyOf ks) r)) ≡ given (valueOf (keyOf ks) r) * 150
+rows-length ks i p m Nothing = refl
+rows-length ks i p m (FeeUnknown s d a) =
+    row-length i (keyOf ks p) (mintOf m) record { source = keyOf ks s; destination = keyOf ks d; amount = a; fee = none } (key-length ks p) (mint-length m) (key-length ks s) (key-length ks d)
+rows-length ks i p m (FeeKnown s d a f) =
+    row-length i (keyOf ks p) (mintOf m) record { source = keyOf ks s; destination = keyOf ks d; amount = a; fee = some f } (key-length ks p) (mint-length m) (key-length ks s) (key-length ks d)

@@ -2,10 +2,10 @@ use borrow.Author.Tests.{eq-eqb, ne-eqb}
 use Rattle.ids.specs.Keys.{zeroKey}
 use Rattle.token.specs.Transfers.{isZero}
 use borrow.Author.Needs.{needs}
-use Rattle.token.proofs.known.Statement.{statement}
-use Rattle.token.proofs.known.Tie as tie
-use Rattle.token.proofs.known.Reads as reads
-use Rattle.token.proofs.known.Lts as lts
+use Rattle.token.proofs.row.known.Statement.{statement}
+use Rattle.token.proofs.row.known.Tie as tie
+use Rattle.token.proofs.row.known.Reads as reads
+use Rattle.token.proofs.row.known.Lts as lts
 use Rattle.wire.proofs.equal.Reads as equal-reads
 
 -- src/lib.rt:219:44
