@@ -130,6 +130,13 @@ never-looser l n d = looser l (length (l .accounts)) n d ∙ go (leb (length (l 
     go true e = rw (le-ltb n (length (l .accounts)) (leb-true (length (l .accounts)) n e), and-false, and-false)
     go false e = rw (e, and-false, and-false)
 
+-- and where it is neither, the two agree
+pub agree : (published rust : Bool) → (published && not rust) ≡ false → (rust && not published) ≡ false → rust ≡ published
+agree true true e f = refl
+agree true false e f = sym e
+agree false true e f = f
+agree false false e f = refl
+
 -- the smallest example of each: a byte too many, or accounts too few
 pub longer-1 : (fits initializeAccount 4 (1 ∷ 0 ∷ []) ≡ true) × (initialises SplToken 4 (1 ∷ 0 ∷ []) ≡ false)
 unfolding fits initializeAccount size total starts same initialises isToken

@@ -14,6 +14,7 @@ use ids::Id;
 
 pub mod row;
 
+// A token instruction, with the amount that it names, and the fee.
 pub enum Token {
     Other,
     Initialise,

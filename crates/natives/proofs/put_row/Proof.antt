@@ -1,3 +1,5 @@
+-- Past the end nothing is stored; else the case names the fields, and a key that is looked up has 32 bytes.
+-- Assumes nothing.
 use native.Mathlib.Omega.{arith}
 use mathlib.Core.Path.{refl, sym, ap, _∙_}
 use lib.ListN.{length}

@@ -1,3 +1,5 @@
+-- Each call stores one field, and each field begins where the one before it ends (`fields`).
+-- Assumes nothing.
 use native.Mathlib.Omega.{arith}
 use Rattle.token.specs.Rows.{mintOf, mintField}
 use Rattle.ids.specs.Keys.{keyOf}

@@ -1,3 +1,5 @@
+-- Past the end nothing is stored; else the case names the fields, an absent fee being nine zero bytes.
+-- Assumes nothing.
 use mathlib.Core.Path.{sym, _∙_}
 use Rattle.ids.specs.Keys.{keyOf}
 use Rattle.token.specs.Moved.{valueOf}
