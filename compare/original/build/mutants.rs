@@ -42,10 +42,10 @@ pub const MUTANTS: &[Mutant] = &[
         "false",
     ),
     mutant(
-        "initialise with one account",
+        "initialise needs three accounts",
         "&& ix.accounts.len() >= 2\n            && matches!",
         "ix.accounts.len() >= 2",
-        "ix.accounts.len() >= 1",
+        "ix.accounts.len() >= 3",
     ),
     mutant(
         "initialise with more bytes",

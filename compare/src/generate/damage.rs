@@ -3,7 +3,7 @@
 use super::rng::Rng;
 use super::{mixed, write};
 use original::names::Names;
-use pack::{join, Pack, MAX_BYTES, TRAILER};
+use pack::{join, Pack, KEY_ROW, MAX_BYTES, TRAILER};
 
 /// Names and a pack of which at least one is damaged.
 pub fn damaged(names: Names, rng: &mut Rng) -> (Vec<u8>, Vec<u8>) {
@@ -94,8 +94,8 @@ fn damage_section(sections: &mut [Vec<u8>; 5], rng: &mut Rng) {
     let which = rng.below(5);
     let section = &mut sections[which];
     match (which, rng.below(4)) {
-        (0, 0) if !section.is_empty() => {
-            let row = rng.below(section.len() / 33) * 33;
+        (0, 0) if section.len() >= KEY_ROW => {
+            let row = rng.below(section.len() / KEY_ROW) * KEY_ROW;
             section[row] = rng.pick(&[2, 128, 255]);
         }
         (2, 0) => section.extend(bad_instruction(rng)),

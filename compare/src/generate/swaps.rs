@@ -155,10 +155,14 @@ fn data(form: &Form, accounts: usize, world: &World, rng: &mut Rng) -> Vec<u8> {
     if form.has_slices() {
         data.extend(slices(accounts.saturating_sub(form.floor), rng));
     }
-    let length = if rng.chance(30) { rng.around(form.data) } else { form.data.max(data.len()) };
+    let length = match rng.below(10) {
+        0..=2 => rng.around(form.data),
+        3 if !form.has_slices() => form.data + 1,
+        _ => form.data.max(data.len()),
+    };
     while data.len() < length {
         // The bytes behind the amounts are truth values in several forms.
-        data.push(rng.weigh(&[(47, 0), (47, 1), (3, 2), (3, 255)]));
+        data.push(rng.weigh(&[(45, 0), (45, 1), (5, 2), (5, 255)]));
     }
     if !form.has_slices() || rng.chance(20) {
         data.truncate(length);
