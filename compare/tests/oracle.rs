@@ -1,11 +1,18 @@
 //! The oracle and its generated packs, checked by themselves.
 
-use compare::checks::{cases::CASES, coverage, ids, mutants, packs};
+use compare::checks::{cases::CASES, coverage, ids, mutants, packs, refusals::REFUSALS};
 
 #[test]
 fn cases_of_document_01() {
     for (name, case) in CASES {
         assert_eq!(case(), Ok(()), "{name}");
+    }
+}
+
+#[test]
+fn refusals_of_document_01() {
+    for (name, refusal) in REFUSALS {
+        assert_eq!(refusal(), Ok(()), "{name}");
     }
 }
 

@@ -43,10 +43,12 @@ fn main() {
     let names: Vec<_> = MUTANTS.iter().map(|mutant| mutant.name).collect();
     let root = format!(
         "{others}\n{}\n{}\n#[allow(warnings)]\npub mod mutated {{\n{mutated_others}\n{}\n}}\n\
+         /// The source folder that this was assembled from.\npub const SOURCE: &str = {:?};\n\
          /// The deliberate breaks, by name.\npub const MUTANTS: [&str; {}] = {names:?};\n",
         source.real_names(),
         module(&assembled),
         module(&mutated),
+        source.0,
         names.len()
     );
     write(&out.join("assembled.rs"), &root);

@@ -7,11 +7,13 @@ extern crate self as yellowstone_grpc_proto;
 
 pub mod base58;
 pub mod facts;
+pub mod ids;
 pub mod names;
 mod stand_ins;
 mod switch;
 
 pub use facts::Facts;
+pub use ids::ids;
 pub use stand_ins::{
     convert_rpc_to_grpc, logs, prelude, pubkey, signature,
     EncodedConfirmedTransactionWithStatusMeta, ParseError,
@@ -32,28 +34,4 @@ pub fn mutant_facts(
 ) -> Facts {
     switch::choose(mutant);
     mutated::transaction_route::facts(transaction, meta, graduated)
-}
-
-/// The fourteen ids: six of transaction_route.rs, then the eight of instr/program_ids.rs that `swap` uses.
-pub fn ids() -> [[u8; 32]; 14] {
-    use instr::program_ids::*;
-    let [token, token_2022, wrapped_sol, compute_budget, associated_token, memo] =
-        transaction_route::route_ids();
-    [
-        token,
-        token_2022,
-        wrapped_sol,
-        compute_budget,
-        associated_token,
-        memo,
-        PUMPFUN_PROGRAM_ID,
-        RAYDIUM_LAUNCHLAB_PROGRAM_ID,
-        PUMPSWAP_PROGRAM_ID,
-        RAYDIUM_CLMM_PROGRAM_ID,
-        RAYDIUM_CPMM_PROGRAM_ID,
-        RAYDIUM_AMM_V4_PROGRAM_ID,
-        ORCA_WHIRLPOOL_PROGRAM_ID,
-        METEORA_DLMM_PROGRAM_ID,
-    ]
-    .map(|id| id.0)
 }

@@ -1,16 +1,14 @@
 //! Cases a to k of document 01, its listing, and examples that settle how it is read.
 
-use super::{hold, same, Outcome};
+use super::{hold, same, Example, Outcome};
 use crate::listing::{listing, ROOM};
 use crate::oracle::{self, Answer, Reply, WIDTHS};
+use original::ids;
 use original::instr::meteora_dlmm::discriminators::SWAP2;
 use original::instr::pump_amm::discriminators::SELL;
 use pack::{Balance, Group, Inner, Instruction, Key, KeyRow, Pack};
 
-/// A case by name.
-pub type Case = (&'static str, fn() -> Outcome);
-
-pub const CASES: &[Case] = &[
+pub const CASES: &[Example] = &[
     ("a: AMM V4 tag 9 with 17 accounts", a),
     ("b: AMM V4 tag 9 with 18 accounts", b),
     ("c: PumpSwap with 16, 17, 18, 20, 21 accounts", c),
@@ -33,11 +31,11 @@ pub const CASES: &[Case] = &[
 
 /// Where the fourteen ids stand in the keys of `pack`, after 64 other keys.
 const IDS: u32 = 64;
-const SPL_TOKEN: u32 = IDS;
-const TOKEN_2022: u32 = IDS + 1;
-const PUMPSWAP: u32 = IDS + 8;
-const AMM_V4: u32 = IDS + 11;
-const DLMM: u32 = IDS + 13;
+const SPL_TOKEN: u32 = IDS + ids::SPL_TOKEN as u32;
+const TOKEN_2022: u32 = IDS + ids::TOKEN_2022 as u32;
+const PUMPSWAP: u32 = IDS + ids::PUMPSWAP as u32;
+const AMM_V4: u32 = IDS + ids::AMM_V4 as u32;
+const DLMM: u32 = IDS + ids::DLMM as u32;
 
 /// Key number k of those that are no ids.
 fn key(k: u8) -> Key {
@@ -213,10 +211,10 @@ fn passes_in_order() -> Outcome {
 fn most_passes() -> Outcome {
     let key = |k: u16| std::array::from_fn(|at| k.to_le_bytes()[at % 2].wrapping_add(3));
     let mut keys: Vec<Key> = (0..256).map(key).collect();
-    keys[SPL_TOKEN as usize] = original::ids()[0];
+    keys[SPL_TOKEN as usize] = original::ids()[ids::SPL_TOKEN];
     let reply = reply(&Pack {
         keys: keys.into_iter().map(|key| KeyRow { whole: true, key }).collect(),
-        balances: vec![Balance { account: 0, mint: original::ids()[2] }],
+        balances: vec![Balance { account: 0, mint: original::ids()[ids::WRAPPED_SOL] }],
         outer: (0..255).rev().map(|from| transfer(from, from + 1, 1)).collect(),
         ..Pack::default()
     })?;

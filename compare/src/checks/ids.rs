@@ -14,7 +14,7 @@ pub fn lines() -> String {
 /// The Rust and the Python program print the same lines. Without Python there is nothing to compare.
 pub fn agree() -> Option<Outcome> {
     let script = concat!(env!("CARGO_MANIFEST_DIR"), "/ids.py");
-    match Command::new("python3").arg(script).output() {
+    match Command::new("python3").arg(script).env("MBELAGUY_RUST_SRC", original::SOURCE).output() {
         Err(error) if error.kind() == ErrorKind::NotFound => None,
         Err(error) => Some(Err(error.to_string())),
         Ok(output) => {

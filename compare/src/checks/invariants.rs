@@ -5,6 +5,7 @@ use crate::generate::Case;
 use crate::oracle::mints::Mints;
 use crate::oracle::{blocks, kept, Examined, Refusal, Reply, MAX_INVOCATIONS, MAX_KEYS, WIDTHS};
 use original::facts::{Invocation, Key};
+use original::ids::WRAPPED_SOL;
 use std::collections::{BTreeMap, BTreeSet};
 
 /// An answer against its tables: refusals leave zeroes, rows are sorted and point where they should.
@@ -71,7 +72,7 @@ fn own_rows(reply: &Reply) -> Outcome {
 
 /// Native actions are about accounts whose final mint is wrapped SOL.
 fn wrapped_sol(reply: &Reply) -> Outcome {
-    let wrapped_sol = original::ids()[2];
+    let wrapped_sol = original::ids()[WRAPPED_SOL];
     let mints: BTreeMap<_, _> = rows(reply, 0).map(|row| (&row[..32], &row[32..64])).collect();
     let acted = |row: &[u8]| mints.get(&row[5..37]) == Some(&&wrapped_sol[..]);
     hold("native actions on wrapped SOL", rows(reply, 4).all(acted))

@@ -6,8 +6,12 @@ pub mod ids;
 pub mod invariants;
 pub mod mutants;
 pub mod packs;
+pub mod refusals;
 
 use std::fmt::Debug;
+
+/// An example by name.
+pub type Example = (&'static str, fn() -> Outcome);
 
 /// Nothing, or what is wrong.
 pub type Outcome = Result<(), String>;

@@ -1,11 +1,12 @@
 //! Chains of plain transfers, and packs at the limits and one past them.
 
 use super::rng::Rng;
-use super::swaps::FORMS;
+use super::tokens::{self, Form};
 use super::trees::{self, Heights};
-use super::world::{World, SPL_TOKEN, TOKEN_2022, WRAPPED_SOL};
-use super::{mixed, tokens, write};
+use super::world::World;
+use super::{mixed, write};
 use crate::oracle::{kept, MAX_INVOCATIONS, MAX_KEYS};
+use original::ids::{AMM_V4, SPL_TOKEN, TOKEN_2022, WRAPPED_SOL};
 use original::names::Names;
 use pack::{Balance, Group, Inner, Instruction, Key, KeyRow, Pack, MAX_BYTES};
 
@@ -102,12 +103,13 @@ fn with_noise(mut pack: Pack, names: Names, rng: &mut Rng) -> Pack {
 
 /// A pack at a limit, or one past it.
 pub fn limit(names: Names, rng: &mut Rng) -> Vec<u8> {
-    match rng.below(8) {
+    match rng.below(9) {
         0 | 1 => write(&with_keys(mixed(names, rng), MAX_KEYS + rng.below(2), rng)),
         2 | 3 => write(&with_invocations(mixed(names, rng), MAX_INVOCATIONS + rng.below(2), rng)),
         4 | 5 => with_bytes(mixed(names, rng), MAX_BYTES + rng.below(2), rng),
         6 => write(&full_table(names, rng)),
-        _ => write(&empty_groups(mixed(names, rng), rng)),
+        7 => write(&empty_groups(mixed(names, rng), rng)),
+        _ => write(&many_rows(mixed(names, rng), rng)),
     }
 }
 
@@ -118,24 +120,22 @@ fn with_keys(mut pack: Pack, count: usize, rng: &mut Rng) -> Pack {
     pack
 }
 
-/// So many kept invocations: short ones are added as outers, or as one long group.
+/// So many kept invocations: short ones are added as one long group, or as outers with a group of a
+/// late one.
 fn with_invocations(mut pack: Pack, count: usize, rng: &mut Rng) -> Pack {
     if pack.outer.is_empty() {
         pack.outer.push(Instruction::default());
     }
     let missing = count - kept(&pack);
-    if rng.chance(50) {
-        let at = rng.below(pack.outer.len());
-        let pattern = trees::any_heights(rng);
-        let long = trees::group(at as u32, missing, pattern, rng, &mut |_| Instruction::default());
-        pack.groups.push(long);
-    } else {
-        // Outers at the end may take in groups that named no outer before.
-        let outers = (pack.outer.len() + missing) as u32;
-        pack.groups
-            .retain(|group| (group.outer as usize) < pack.outer.len() || group.outer >= outers);
-        pack.outer.extend((0..missing).map(|_| Instruction::default()));
-    }
+    let inners = if rng.chance(50) { missing } else { rng.below(4) };
+    // Outers at the end may not take in groups that named no outer before.
+    let outers = pack.outer.len() + missing - inners;
+    pack.groups.retain(|group| !(pack.outer.len()..outers).contains(&(group.outer as usize)));
+    pack.outer.resize(outers, Instruction::default());
+    let pattern = trees::any_heights(rng);
+    let outer = rng.below(outers) as u32;
+    let group = trees::group(outer, inners, pattern, rng, &mut |_| Instruction::default());
+    pack.groups.push(group);
     pack
 }
 
@@ -154,15 +154,17 @@ fn with_bytes(mut pack: Pack, length: usize, rng: &mut Rng) -> Vec<u8> {
 /// As many invocations as can be, all of one kind, so that one table is full.
 fn full_table(names: Names, rng: &mut Rng) -> Pack {
     let world = World::new(names, rng);
-    let form = rng.pick(&[0, 1, 2, 3, 4]);
-    let amm = FORMS.iter().find(|form| form.name == "AMM V4 tag 16").expect("a form of that name");
+    let form = rng.pick(&[
+        Some(Form::Plain),
+        Some(Form::Checked),
+        Some(Form::Sync),
+        Some(Form::Fund),
+        None,
+    ]);
     let mut make = |rng: &mut Rng| match form {
-        0 => tokens::instruction(tokens::Form::Plain, &world, rng),
-        1 => tokens::instruction(tokens::Form::Checked, &world, rng),
-        2 => tokens::instruction(tokens::Form::Sync, &world, rng),
-        3 => tokens::instruction(tokens::Form::Fund, &world, rng),
-        _ => Instruction {
-            program: world.program(amm.program, rng),
+        Some(form) => tokens::instruction(form, &world, rng),
+        None => Instruction {
+            program: world.program(AMM_V4, rng),
             accounts: world.accounts(8, rng),
             data: [vec![16], rng.bytes(16)].concat(),
         },
@@ -189,6 +191,19 @@ fn empty_groups(mut pack: Pack, rng: &mut Rng) -> Pack {
     if outers > 0 {
         let inner = Inner { height: Some(2), instruction: Instruction::default() };
         pack.groups.push(Group { outer: 0, instructions: vec![inner] });
+    }
+    pack
+}
+
+/// Hundreds of balances or pools before the others.
+fn many_rows(mut pack: Pack, rng: &mut Rng) -> Pack {
+    let count = rng.between(260, 1_000);
+    if rng.chance(50) {
+        let account = rng.below(pack.keys.len() + 1) as u32;
+        let balances = (0..count).map(|_| Balance { account, mint: rng.array() });
+        pack.balances.splice(0..0, balances);
+    } else {
+        pack.pools.splice(0..0, (0..count).map(|_| rng.array()));
     }
     pack
 }

@@ -2,7 +2,8 @@
 
 use super::names::{BASE_IN, BASE_OUT, BUY, REWARD, STANDARD};
 use super::rng::Rng;
-use super::world::{World, WRAPPED_SOL};
+use super::world::World;
+use original::ids::{AMM_V4, CLMM, CPMM, DLMM, LAUNCHLAB, ORCA, PUMPFUN, PUMPSWAP, WRAPPED_SOL};
 use original::instr::meteora_dlmm::discriminators as dlmm;
 use original::instr::pump::discriminators as pump;
 use original::instr::pump_amm::discriminators as pump_amm;
@@ -10,16 +11,6 @@ use original::instr::raydium_launchlab::discriminators as launchlab;
 use original::names::Names;
 use pack::{Instruction, Key};
 use std::sync::LazyLock;
-
-/// Rows in the table of ids.
-const PUMPFUN: usize = 6;
-const LAUNCHLAB: usize = 7;
-const PUMPSWAP: usize = 8;
-const CLMM: usize = 9;
-const CPMM: usize = 10;
-const AMM_V4: usize = 11;
-const ORCA: usize = 12;
-const DLMM: usize = 13;
 
 /// CLMM and Orca share these; the original keeps them inside `swap`.
 const SWAP: [u8; 8] = dlmm::SWAP;

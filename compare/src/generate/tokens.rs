@@ -1,7 +1,8 @@
 //! Token and System instructions around every length and account count at which something changes.
 
 use super::rng::Rng;
-use super::world::{World, SPL_TOKEN, TOKEN_2022};
+use super::world::World;
+use original::ids::{SPL_TOKEN, TOKEN_2022};
 use pack::Instruction;
 
 /// Forms of token and System instructions.
@@ -119,7 +120,8 @@ fn stray(world: &World, rng: &mut Rng) -> Instruction {
     Instruction { program, accounts: world.accounts(count, rng), data }
 }
 
-/// The instruction with as many accounts and bytes as given, or one less, or more.
+/// The instruction with as many accounts and bytes as given, or one less, or more: 256 more too, which
+/// are none in a single byte.
 fn sized(
     program: u32,
     mut accounts: Vec<u8>,
@@ -127,17 +129,21 @@ fn sized(
     world: &World,
     rng: &mut Rng,
 ) -> Instruction {
-    if rng.chance(30) {
-        let count = rng.around(accounts.len());
-        let more = world.accounts(count.saturating_sub(accounts.len()), rng);
-        accounts.extend(more);
-        accounts.truncate(count);
-    }
-    if rng.chance(25) {
-        let length = rng.around(data.len());
-        let more = rng.bytes(length.saturating_sub(data.len()));
-        data.extend(more);
-        data.truncate(length);
-    }
+    let count = near(accounts.len(), rng);
+    let more = world.accounts(count.saturating_sub(accounts.len()), rng);
+    accounts.extend(more);
+    accounts.truncate(count);
+    let length = near(data.len(), rng);
+    let more = rng.bytes(length.saturating_sub(data.len()));
+    data.extend(more);
+    data.truncate(length);
     Instruction { program, accounts, data }
+}
+
+fn near(number: usize, rng: &mut Rng) -> usize {
+    match rng.below(100) {
+        0..=26 => rng.around(number),
+        27 => number + 256,
+        _ => number,
+    }
 }

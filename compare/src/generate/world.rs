@@ -3,13 +3,9 @@
 
 use super::names::{REWARD, STANDARD};
 use super::rng::Rng;
+use original::ids::WRAPPED_SOL;
 use original::names::Names;
 use pack::{Balance, Key, KeyRow};
-
-/// Rows in the table of ids.
-pub const SPL_TOKEN: usize = 0;
-pub const TOKEN_2022: usize = 1;
-pub const WRAPPED_SOL: usize = 2;
 
 pub struct World {
     pub names: Names,

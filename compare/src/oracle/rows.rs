@@ -3,16 +3,6 @@
 use super::mints::Mints;
 use original::facts::{Action, Facts, Invocation, Key, Leg, Native, Transfer};
 
-/// Bits of an invocation's row.
-pub mod bits {
-    pub const TRANSFERS_INSIDE: u8 = 1;
-    pub const SWAPS_INSIDE: u8 = 2;
-    pub const SKIP_ROUTE: u8 = 4;
-    pub const RESOLVED: u8 = 8;
-    pub const OWN_LEG: u8 = 16;
-    pub const OWN_TRANSFER: u8 = 32;
-}
-
 pub fn tables(facts: &Facts, mints: &Mints) -> [Vec<u8>; 5] {
     let mut tables: [Vec<u8>; 5] = Default::default();
     let [mint_rows, invocations, transfers, legs, natives] = &mut tables;
@@ -42,12 +32,12 @@ fn put_invocation(table: &mut Vec<u8>, invocation: &Invocation) {
     put_optional(table, invocation.height.map(u32::to_le_bytes));
     table.extend((invocation.end as u32).to_le_bytes());
     let bits = [
-        (invocation.transfers_inside, bits::TRANSFERS_INSIDE),
-        (invocation.swaps_inside, bits::SWAPS_INSIDE),
-        (invocation.skip_route, bits::SKIP_ROUTE),
-        (invocation.resolved, bits::RESOLVED),
-        (invocation.leg.is_some(), bits::OWN_LEG),
-        (invocation.transfer.is_some(), bits::OWN_TRANSFER),
+        (invocation.transfers_inside, 1),
+        (invocation.swaps_inside, 2),
+        (invocation.skip_route, 4),
+        (invocation.resolved, 8),
+        (invocation.leg.is_some(), 16),
+        (invocation.transfer.is_some(), 32),
     ];
     table.push(bits.iter().filter(|bit| bit.0).map(|bit| bit.1).sum());
     table.extend(invocation.leg.map_or(0, |leg| leg as u32 + 1).to_le_bytes());

@@ -5,6 +5,7 @@ use crate::generate::swaps::{Form, FORMS};
 use crate::generate::Case;
 use crate::oracle::Examined;
 use original::facts::{Action, Invocation};
+use original::ids::WRAPPED_SOL;
 
 impl Coverage {
     pub fn note_token(&mut self, invocation: &Invocation) {
@@ -135,7 +136,7 @@ impl Coverage {
             Some("PumpFun") => {
                 let quote = invocation.accounts.get(2).map(|at| usize::from(*at));
                 let quote = quote.and_then(|at| examined.pack.keys.get(at));
-                let wrapped_sol = quote.is_some_and(|row| row.key == original::ids()[2]);
+                let wrapped_sol = quote.is_some_and(|row| row.key == original::ids()[WRAPPED_SOL]);
                 self.note_if("PumpFun with wrapped SOL as quote", has_leg && wrapped_sol);
             }
             Some("DLMM") if form.floor == 16 && data.get(24).is_some_and(|count| *count > 0) => {

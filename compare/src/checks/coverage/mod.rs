@@ -80,6 +80,8 @@ const PLAIN: &[&str] = &[
     "pool",
     "zero pool",
     "pool twice",
+    "over 255 pools",
+    "over 255 balances",
     "256 keys accepted",
     "257 keys refused",
     "1,024 invocations accepted",
@@ -112,6 +114,7 @@ const PLAIN: &[&str] = &[
     "dropped group",
     "empty group",
     "over 1,000 groups",
+    "group of an outer past 255",
     "tests 2n - 3",
     "fund",
     "sync",
@@ -132,6 +135,7 @@ const PLAIN: &[&str] = &[
     "System transfer of 11 bytes",
     "System transfer of 12 bytes",
     "System transfer of 13 bytes",
+    "System transfer of 268 bytes",
     "leg mode 1",
     "leg mode 2",
     "graduated",
@@ -159,7 +163,7 @@ fn required() -> Vec<String> {
         names.push(format!("answer 8 {place}"));
     }
     for (tag, length, accounts) in TOKEN_FORMS {
-        for near in [length - 1, length, length + 1] {
+        for near in [length - 1, length, length + 1, length + 256] {
             if near > 0 {
                 names.push(format!("tag {tag} with {near} bytes"));
             }

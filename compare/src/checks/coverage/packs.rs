@@ -87,6 +87,8 @@ impl Coverage {
         self.note_if("zero pool", pack.pools.contains(&[0; 32]));
         let pools: BTreeSet<_> = pack.pools.iter().collect();
         self.note_if("pool twice", pools.len() < pack.pools.len());
+        self.note_if("over 255 pools", pack.pools.len() > 255);
+        self.note_if("over 255 balances", pack.balances.len() > 255);
         self.note_groups(pack);
     }
 
@@ -103,6 +105,7 @@ impl Coverage {
         self.note_if("dropped group", kept.len() < groups.len());
         self.note_if("empty group", groups.iter().any(|group| group.instructions.is_empty()));
         self.note_if("over 1,000 groups", groups.len() > 1_000);
+        self.note_if("group of an outer past 255", kept.iter().any(|outer| *outer > 255));
     }
 
     pub fn note_mints(&mut self, examined: &Examined) {
