@@ -10,7 +10,7 @@ use std::path::{Path, PathBuf};
 use std::{env, fs};
 use text::{constant, item, only_once};
 
-/// Constants whose values are lent: file, constant, name in `names.rs`.
+/// Constants whose values are lent: file and constant.
 const LENT: [(&str, &str); 3] = [
     ("instr/raydium_cpmm.rs", "SWAP_BASE_IN"),
     ("instr/raydium_cpmm.rs", "SWAP_BASE_OUT"),

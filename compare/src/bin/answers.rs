@@ -9,8 +9,8 @@ use std::io::{self, BufWriter, Write};
 use std::process::ExitCode;
 
 fn main() -> ExitCode {
-    let seeds: Vec<u64> = env::args().skip(1).map_while(|seed| seed.parse().ok()).collect();
-    let &[from, to] = &seeds[..] else {
+    let seeds: Option<Vec<u64>> = env::args().skip(1).map(|seed| seed.parse().ok()).collect();
+    let Some(&[from, to]) = seeds.as_deref() else {
         eprintln!("usage: answers FROM TO");
         return ExitCode::FAILURE;
     };

@@ -91,9 +91,10 @@ impl Form {
         }
     }
 
-    /// Whether these forms end without a leg whatever they hold.
+    /// Whether it ends without a leg whatever it holds.
     pub fn is_price_impact(&self) -> bool {
-        self.name.starts_with("DLMM price impact")
+        let impacts = [dlmm::SWAP_WITH_PRICE_IMPACT, dlmm::SWAP_WITH_PRICE_IMPACT2];
+        impacts.map(Start::Fixed).contains(&self.start)
     }
 
     fn has_slices(&self) -> bool {

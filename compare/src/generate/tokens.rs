@@ -77,7 +77,8 @@ fn with_fee(world: &World, rng: &mut Rng) -> Instruction {
 }
 
 fn checked_accounts(world: &World, rng: &mut Rng) -> Vec<u8> {
-    vec![world.token_account(rng), world.mint(rng), world.token_account(rng), world.account(rng)]
+    let source = world.token_account(rng);
+    vec![source, world.mint(source, rng), world.token_account(rng), world.account(rng)]
 }
 
 fn initialise(world: &World, rng: &mut Rng) -> Instruction {
@@ -85,7 +86,8 @@ fn initialise(world: &World, rng: &mut Rng) -> Instruction {
         1 => vec![1],
         tag => [vec![tag], rng.bytes(32)].concat(),
     };
-    let accounts = vec![world.token_account(rng), world.mint(rng)];
+    let account = world.token_account(rng);
+    let accounts = vec![account, world.mint(account, rng)];
     sized(token_program(world, rng), accounts, data, world, rng)
 }
 

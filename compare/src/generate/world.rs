@@ -96,11 +96,12 @@ impl World {
         }
     }
 
-    pub fn mint(&self, rng: &mut Rng) -> u8 {
-        if rng.chance(90) {
-            rng.pick(&self.mints)
-        } else {
-            self.account(rng)
+    /// A mint for an account: mostly its usual one, else another, which makes it ambiguous.
+    pub fn mint(&self, account: u8, rng: &mut Rng) -> u8 {
+        match rng.below(20) {
+            0 => self.account(rng),
+            1..=5 => rng.pick(&self.mints),
+            _ => self.mints[usize::from(account) % self.mints.len()],
         }
     }
 
@@ -111,29 +112,25 @@ impl World {
 
     pub fn balances(&self, rng: &mut Rng) -> Vec<Balance> {
         let count = rng.weigh(&[(2, 0), (3, 2), (3, 5), (2, 9)]) + rng.below(2);
-        (0..count)
-            .map(|_| Balance { account: self.balance_index(rng), mint: self.balance_mint(rng) })
-            .collect()
+        (0..count).map(|_| self.balance(rng)).collect()
     }
 
-    fn balance_index(&self, rng: &mut Rng) -> u32 {
-        let index = u32::from(self.token_account(rng));
-        match rng.below(40) {
-            0 => index + 256,
-            1 => index + 65_536,
+    fn balance(&self, rng: &mut Rng) -> Balance {
+        let index = self.token_account(rng);
+        let account = match rng.below(40) {
+            0 => u32::from(index) + 256,
+            1 => u32::from(index) + 65_536,
             2 => self.keys.len() as u32,
             3 => u32::MAX,
-            _ => index,
-        }
-    }
-
-    fn balance_mint(&self, rng: &mut Rng) -> Key {
-        match rng.below(20) {
+            _ => u32::from(index),
+        };
+        let mint = match rng.below(20) {
             0 => [0; 32],
             1 => rng.array(),
-            2..=9 => original::ids()[WRAPPED_SOL],
-            _ => self.key(self.mint(rng)),
-        }
+            2 | 3 => original::ids()[WRAPPED_SOL],
+            _ => self.key(self.mint(index, rng)),
+        };
+        Balance { account, mint }
     }
 
     /// Graduated pools: mostly keys that swaps use, also zero and unknown ones, some twice.

@@ -12,11 +12,11 @@ pub fn tests(ends: &[usize]) -> usize {
 fn tops(ends: &[usize], i: usize) -> usize {
     let mut count = 0;
     let mut covered = 0;
-    for member in i + 1..ends[i] {
+    for (member, end) in ends.iter().enumerate().take(ends[i]).skip(i + 1) {
         if member >= covered {
             count += 1;
         }
-        covered = covered.max(ends[member]);
+        covered = covered.max(*end);
     }
     count
 }

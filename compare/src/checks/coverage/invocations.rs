@@ -5,7 +5,7 @@ use crate::generate::swaps::{Form, FORMS};
 use crate::generate::Case;
 use crate::oracle::Examined;
 use original::facts::{Action, Invocation};
-use original::ids::WRAPPED_SOL;
+use original::ids::{CLMM, DLMM, ORCA, PUMPFUN, PUMPSWAP, WRAPPED_SOL};
 
 impl Coverage {
     pub fn note_token(&mut self, invocation: &Invocation) {
@@ -65,7 +65,7 @@ impl Coverage {
             let target = invocation.accounts.first().and_then(|at| keys.get(usize::from(*at)));
             let mint = target.and_then(|row| examined.facts.mints.get(&row.key));
             let but_for = mint == Some(&wrapped_sol);
-            self.note_if("native action but for an unused account out of range", but_for);
+            self.note_if("sync stopped by an account out of range", but_for);
         }
     }
 
@@ -93,7 +93,7 @@ impl Coverage {
             if accounts == form.floor + 256 && has_leg {
                 self.note(&form_feature(form, "256 accounts above its floor: leg"));
             }
-            if form.name.starts_with("PumpSwap") && enough {
+            if form.program == PUMPSWAP && enough {
                 self.note(&format!("PumpSwap with {accounts} accounts"));
             }
             self.note_bytes(form, examined, invocation);
@@ -119,27 +119,27 @@ impl Coverage {
         let has_leg = invocation.leg.is_some();
         let over = |at: usize| data.get(at).is_some_and(|byte| *byte > 1);
         let whole = accounts >= form.floor && data.len() >= form.data;
-        match form.name.split(' ').next() {
-            Some("CLMM") => self.note_if("CLMM byte 40 over 1", whole && over(40)),
-            Some("Orca") => {
+        match form.program {
+            CLMM => self.note_if("CLMM byte 40 over 1", whole && over(40)),
+            ORCA => {
                 self.note_if("Orca byte 40 over 1", whole && over(40) && !over(41));
                 self.note_if("Orca byte 41 over 1", whole && over(41) && !over(40));
             }
-            Some("PumpSwap") => {
+            PUMPSWAP => {
                 let counted = accounts == 17 || accounts >= 21;
                 let sell = form.name.contains("sell");
-                let passed = "leg on the way into a sell with byte 24 over 1";
+                let passed = "leg for a sell with byte 24 over 1";
                 self.note_if(passed, sell && over(24) && has_leg);
                 let stopped = "no leg for a buy with byte 24 over 1";
                 self.note_if(stopped, !sell && over(24) && counted && !has_leg);
             }
-            Some("PumpFun") => {
+            PUMPFUN => {
                 let quote = invocation.accounts.get(2).map(|at| usize::from(*at));
                 let quote = quote.and_then(|at| examined.pack.keys.get(at));
                 let wrapped_sol = quote.is_some_and(|row| row.key == original::ids()[WRAPPED_SOL]);
                 self.note_if("PumpFun with wrapped SOL as quote", has_leg && wrapped_sol);
             }
-            Some("DLMM") if form.floor == 16 && data.get(24).is_some_and(|count| *count > 0) => {
+            DLMM if form.floor == 16 && data.get(24).is_some_and(|count| *count > 0) => {
                 self.note_if("slices with a leg", has_leg);
                 self.note_if("slices without a leg", whole && !has_leg);
             }

@@ -22,6 +22,7 @@ pub fn count(seeds: Range<u64>) -> BTreeMap<String, usize> {
         coverage.note_answer(&case, &reply);
         if let Ok(examined) = examined {
             coverage.note_names(&case);
+            coverage.note_room(&case, &examined);
             coverage.note_pack(&examined);
             coverage.note_mints(&examined);
             coverage.note_trees(&examined);
@@ -47,8 +48,8 @@ const TOKEN_FORMS: [(u8, usize, usize); 8] = [
     (26, 19, 4),
 ];
 
-/// Features without a number in their name.
-const PLAIN: &[&str] = &[
+/// Features named one by one; the others come in series.
+const SINGLE: &[&str] = &[
     "table exactly full",
     "odd bytes behind the rows",
     "names real",
@@ -91,6 +92,7 @@ const PLAIN: &[&str] = &[
     "no invocation",
     "ambiguous account",
     "only ambiguous accounts",
+    "room lacking for ambiguous accounts alone",
     "filled in against the transfer's direction",
     "chain over both token programs",
     "mark 0",
@@ -120,7 +122,7 @@ const PLAIN: &[&str] = &[
     "sync",
     "close",
     "native action on a filled-in account",
-    "native action but for an unused account out of range",
+    "sync stopped by an account out of range",
     "plain transfer of SPL Token",
     "plain transfer of Token-2022",
     "checked transfer of SPL Token",
@@ -142,7 +144,7 @@ const PLAIN: &[&str] = &[
     "graduated zero pool",
     "leg with equal token accounts",
     "leg with a zero pool",
-    "leg on the way into a sell with byte 24 over 1",
+    "leg for a sell with byte 24 over 1",
     "no leg for a buy with byte 24 over 1",
     "PumpFun with wrapped SOL as quote",
     "slices with a leg",
@@ -154,7 +156,7 @@ const PLAIN: &[&str] = &[
 
 /// All features that must occur.
 fn required() -> Vec<String> {
-    let mut names: Vec<String> = PLAIN.iter().map(|name| name.to_string()).collect();
+    let mut names: Vec<String> = SINGLE.iter().map(|name| name.to_string()).collect();
     for refusal in ["0 0", "1 0", "2 0", "3 0", "5 0", "6 0"] {
         names.push(format!("answer {refusal}"));
     }

@@ -10,6 +10,12 @@ use pack::{Pack, MAX_BYTES};
 use std::collections::BTreeSet;
 
 impl Coverage {
+    pub fn note_room(&mut self, case: &Case, examined: &Examined) {
+        let rows = case.lengths[0] / WIDTHS[0];
+        let lacking = examined.facts.mints.len() <= rows && rows < examined.needs[0];
+        self.note_if("room lacking for ambiguous accounts alone", lacking);
+    }
+
     pub fn note_answer(&mut self, case: &Case, reply: &Reply) {
         let answer = &reply.answer;
         let accepted = answer.number == 0;
@@ -27,7 +33,7 @@ impl Coverage {
             let used = |t: usize| answer.counts[t] as usize * WIDTHS[t];
             let full = (0..5).any(|t| used(t) > 0 && used(t) == case.lengths[t]);
             self.note_if("table exactly full", full);
-            let odd = (0..5).any(|t| case.lengths[t] % WIDTHS[t] != 0);
+            let odd = (0..5).any(|t| !case.lengths[t].is_multiple_of(WIDTHS[t]));
             self.note_if("odd bytes behind the rows", odd);
         }
     }
