@@ -1,4 +1,3 @@
-
 // What follows is the harness of the comparison, not part of the original.
 
 /// Runs the original's functions in its own order and hands their answers out as plain values.
@@ -87,10 +86,9 @@ fn plain_native(native: RouteNativeTokenAction) -> crate::facts::Native {
                 crate::facts::Action::Fund { source: source.0, lamports }
             }
             NativeTokenAction::SyncNative => crate::facts::Action::Sync,
-            NativeTokenAction::Close { destination, authority } => crate::facts::Action::Close {
-                destination: destination.0,
-                authority: authority.0,
-            },
+            NativeTokenAction::Close { destination, authority } => {
+                crate::facts::Action::Close { destination: destination.0, authority: authority.0 }
+            }
         },
     }
 }
