@@ -20,15 +20,13 @@ use Rattle.token.specs.Programs.{isToken}
 use Rattle.token.specs.Published.{starts}
 use Rattle.token.specs.Transfers.{isZero}
 use Rattle.token.specs.Rows.{mintOf}
+use Rattle.token.proofs.Laws.{there}
 use Rattle.natives.specs.Natives.{NativeAction, isSystem, funds, syncs, closes, asked, allBelow, wrapped, counted, nativeAction}
 use Rattle.natives.specs.Numbers.{valueOf, formOf, heldBy, actedOf, actionOf}
 use Rattle.natives.specs.declared.Native.{Native}
 use Rattle.natives.specs.declared.Native.the-variants.{Nothing, Fund, Sync, Close}
 
 module _ (κ : ℕ → Key) (id : Id) (accounts d : List ℕ) where
-  there : (i : ℕ) → i < length accounts → account κ accounts i ≡ κ (getD accounts i 0)
-  there i h = rw (lt-ltb i (length accounts) h)
-
   fund-floor : funds id (length accounts) d ≡ true → 2 ≤ length accounts
   unfolding funds
   fund-floor e = leb-true 2 (length accounts) (and-right (isSystem id && starts (2 ∷ 0 ∷ 0 ∷ 0 ∷ []) d && eqb (length d) 12) (leb 2 (length accounts)) e)
@@ -46,9 +44,9 @@ module _ (κ : ℕ → Key) (id : Id) (accounts d : List ℕ) where
   form-value = go (funds id (length accounts) d) refl (syncs id (length accounts) d) refl (closes id (length accounts) d) refl
     where
       go : (f : Bool) → funds id (length accounts) d ≡ f → (s : Bool) → syncs id (length accounts) d ≡ s → (c : Bool) → closes id (length accounts) d ≡ c → valueOf κ (formOf id accounts d) ≡ asked κ id accounts d
-      go true e s f c g = rw (e, there 0 (omega (arith, fund-floor e)), there 1 (omega (arith, fund-floor e)))
-      go false e true f c g = rw (e, f, there 0 (omega (arith, sync-floor f)))
-      go false e false f true g = rw (e, f, g, there 0 (omega (arith, close-floor g)), there 1 (omega (arith, close-floor g)), there 2 (omega (arith, close-floor g)))
+      go true e s f c g = rw (e, there κ accounts 0 (omega (arith, fund-floor e)), there κ accounts 1 (omega (arith, fund-floor e)))
+      go false e true f c g = rw (e, f, there κ accounts 0 (omega (arith, sync-floor f)))
+      go false e false f true g = rw (e, f, g, there κ accounts 0 (omega (arith, close-floor g)), there κ accounts 1 (omega (arith, close-floor g)), there κ accounts 2 (omega (arith, close-floor g)))
       go false e false f false g = rw (e, f, g)
 
 -- what counts of an action, by its number

@@ -66,3 +66,8 @@ counted count accounts μ (some a) = cond (allBelow count accounts && wrapped (�
 
 unfoldable pub nativeAction : (ℕ → Key) → ℕ → Id → List ℕ → List ℕ → (Key → Option Key) → Option NativeAction
 nativeAction κ count id accounts d μ = counted count accounts μ (asked κ id accounts d)
+
+-- how many actions, and so rows, there are
+abbrev pub given : Option NativeAction → ℕ
+given none = 0
+given (some a) = 1

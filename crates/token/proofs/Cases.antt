@@ -3,7 +3,7 @@
 use mathlib.Core.Path.{_≡_, refl}
 use mathlib.Core.Bool.{Bool, true, cond, _&&_, _||_}
 use mathlib.Core.List.{List, [], _∷_, _++_}
-use mathlib.Core.Option.{Option, none, some}
+use mathlib.Core.Option.{none}
 use Prim.Native.Nat.{ℕ, suc}
 use lib.Dec.{ltb, eqb}
 use lib.ListN.{length, replicate}
@@ -14,16 +14,11 @@ use Rattle.ids.specs.Keys.{Key, zeroKey}
 use Rattle.token.specs.Programs.{isToken, isToken2022}
 use Rattle.token.specs.Tokens.{initialises, plainTransfer, checkedTransfer, feeTransfer}
 use Rattle.token.specs.Records.{bothEnds, records}
-use Rattle.token.specs.Transfers.{Transfer, isZero, plainly, checked, transfer}
+use Rattle.token.specs.Transfers.{isZero, plainly, checked, transfer, given}
 
 -- n keys, none of them zero
 abbrev pub keysUpTo : ℕ → ℕ → Key
 keysUpTo n i = cond (ltb i n) (replicate 32 (suc i)) zeroKey
-
--- how many transfers there are
-abbrev pub given : Option Transfer → ℕ
-given none = 0
-given (some t) = 1
 
 -- h: with-fee data of 18 and of 19 bytes; k: initialise data [1] and [1, 0]
 unfoldable pub cases : List (ℕ × ℕ)

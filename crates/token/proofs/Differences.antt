@@ -122,6 +122,21 @@ looser l m n d = go (starts (l .tag) d)
     go true = fewer (length d) (size l) m (length (l .accounts)) n
     go false = refl
 
+-- so never where it wants as many as are published
+pub never-looser : (l : Layout) (n : ℕ) (d : List ℕ) → (exact l (length (l .accounts)) n d && not (fits l n d)) ≡ false
+never-looser l n d = looser l (length (l .accounts)) n d ∙ go (leb (length (l .accounts)) n) refl
+  where
+    go : (b : Bool) → leb (length (l .accounts)) n ≡ b → (starts (l .tag) d && (eqb (length d) (size l) && leb (length (l .accounts)) n && ltb n (length (l .accounts)))) ≡ false
+    go true e = rw (le-ltb n (length (l .accounts)) (leb-true (length (l .accounts)) n e), and-false, and-false)
+    go false e = rw (e, and-false, and-false)
+
+-- and where it is neither, the two agree
+pub agree : (published rust : Bool) → (published && not rust) ≡ false → (rust && not published) ≡ false → rust ≡ published
+agree true true e f = refl
+agree true false e f = sym e
+agree false true e f = f
+agree false false e f = refl
+
 -- the smallest example of each: a byte too many, or accounts too few
 pub longer-1 : (fits initializeAccount 4 (1 ∷ 0 ∷ []) ≡ true) × (initialises SplToken 4 (1 ∷ 0 ∷ []) ≡ false)
 unfolding fits initializeAccount size total starts same initialises isToken

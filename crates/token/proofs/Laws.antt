@@ -22,19 +22,20 @@ use Rattle.token.specs.declared.Moved.{Moved}
 use Rattle.token.specs.declared.Moved.the-variants.{Nothing, FeeUnknown, FeeKnown}
 use Rattle.token.proofs.Said.{Said, initialised, plainly as saysPlain, checkedly, feely, otherwise, said, Tests}
 
-module _ (κ : ℕ → Key) (id : Id) (accounts d : List ℕ) where
-  there : (i : ℕ) → i < length accounts → account κ accounts i ≡ κ (getD accounts i 0)
-  there i h = rw (lt-ltb i (length accounts) h)
+-- an account that is there is the key of its index byte
+pub there : (κ : ℕ → Key) (accounts : List ℕ) (i : ℕ) → i < length accounts → account κ accounts i ≡ κ (getD accounts i 0)
+there κ accounts i h = rw (lt-ltb i (length accounts) h)
 
+module _ (κ : ℕ → Key) (id : Id) (accounts d : List ℕ) where
   pub records-by : records κ id accounts d ≡ recordsBy κ accounts (tokenOf id (length accounts) d)
   unfolding records bothEnds
   records-by = go (said id (length accounts) d)
     where
       go : {t : Token} → Said id (length accounts) d t → records κ id accounts d ≡ recordsBy κ accounts t
-      go (initialised t h) = rw (t .init, t .checked, t .fee, there 0 (omega arith), there 1 (omega arith))
+      go (initialised t h) = rw (t .init, t .checked, t .fee, there κ accounts 0 (omega arith), there κ accounts 1 (omega arith))
       go (saysPlain t h) = rw (t .init, t .checked, t .fee)
-      go (checkedly t h) = rw (t .init, t .checked, t .fee, there 0 (omega arith), there 1 (omega arith), there 2 (omega arith))
-      go (feely t h) = rw (t .init, t .checked, t .fee, there 0 (omega arith), there 1 (omega arith), there 2 (omega arith))
+      go (checkedly t h) = rw (t .init, t .checked, t .fee, there κ accounts 0 (omega arith), there κ accounts 1 (omega arith), there κ accounts 2 (omega arith))
+      go (feely t h) = rw (t .init, t .checked, t .fee, there κ accounts 0 (omega arith), there κ accounts 1 (omega arith), there κ accounts 2 (omega arith))
       go (otherwise t) = rw (t .init, t .checked, t .fee)
 
   pub plain-by : plain κ id accounts d ≡ plainBy κ accounts (tokenOf id (length accounts) d)
@@ -43,7 +44,7 @@ module _ (κ : ℕ → Key) (id : Id) (accounts d : List ℕ) where
     where
       go : {t : Token} → Said id (length accounts) d t → plain κ id accounts d ≡ plainBy κ accounts t
       go (initialised t h) = rw (t .plain)
-      go (saysPlain t h) = rw (t .plain, there 0 (omega arith), there 1 (omega arith))
+      go (saysPlain t h) = rw (t .plain, there κ accounts 0 (omega arith), there κ accounts 1 (omega arith))
       go (checkedly t h) = rw (t .plain)
       go (feely t h) = rw (t .plain)
       go (otherwise t) = rw (t .plain)
@@ -70,13 +71,13 @@ module _ (κ : ℕ → Key) (id : Id) (accounts d : List ℕ) where
       go : {t : Token} → Said id (length accounts) d t → valueOf κ (movedBy κ id accounts t) ≡ transfer κ id accounts d
       go (initialised t h) = rw (t .plain, t .checked, t .fee)
       go (saysPlain t h) =
-          rw (t .plain, there κ id accounts d 0 (omega arith), there κ id accounts d 1 (omega arith))
+          rw (t .plain, there κ accounts 0 (omega arith), there κ accounts 1 (omega arith))
           (value-feeless κ (isZero (κ (getD accounts 0 0)) || isZero (κ (getD accounts 1 0))) id (getD accounts 0 0) (getD accounts 1 0) (le 8 d 1))
       go (checkedly t h) =
-          rw (t .plain, t .checked, there κ id accounts d 0 (omega arith), there κ id accounts d 1 (omega arith), there κ id accounts d 2 (omega arith))
+          rw (t .plain, t .checked, there κ accounts 0 (omega arith), there κ accounts 1 (omega arith), there κ accounts 2 (omega arith))
           (value-feeless κ (isZero (κ (getD accounts 0 0)) || isZero (κ (getD accounts 2 0)) || isZero (κ (getD accounts 1 0))) id (getD accounts 0 0) (getD accounts 2 0) (le 8 d 1))
       go (feely t h) =
-          rw (t .plain, t .checked, t .fee, there κ id accounts d 0 (omega arith), there κ id accounts d 1 (omega arith), there κ id accounts d 2 (omega arith))
+          rw (t .plain, t .checked, t .fee, there κ accounts 0 (omega arith), there κ accounts 1 (omega arith), there κ accounts 2 (omega arith))
           (value-fee κ (isZero (κ (getD accounts 0 0)) || isZero (κ (getD accounts 2 0)) || isZero (κ (getD accounts 1 0))) (getD accounts 0 0) (getD accounts 2 0) (le 8 d 2) (le 8 d 11))
       go (otherwise t) = rw (t .plain, t .checked, t .fee)
 

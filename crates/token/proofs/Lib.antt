@@ -2,6 +2,6 @@ pub mod Numbers
 pub mod Reading
 pub mod Said
 pub mod Laws
-pub mod Rows
+pub mod Fields
 pub mod Differences
 pub mod Cases

@@ -36,3 +36,9 @@ movedBy κ id accounts (Checked a) =
 movedBy κ id accounts (WithFee a f) =
     cond (isZero (κ (getD accounts 0 0)) || isZero (κ (getD accounts 2 0)) || isZero (κ (getD accounts 1 0))) Nothing
     (FeeKnown (getD accounts 0 0) (getD accounts 2 0) a f)
+
+-- the index of a transfer's source; 0 where there is no transfer, whose mint then does not matter
+abbrev pub sourceBy : Moved → ℕ
+sourceBy Nothing = 0
+sourceBy (FeeUnknown s d a) = s
+sourceBy (FeeKnown s d a f) = s

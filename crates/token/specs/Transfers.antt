@@ -44,3 +44,8 @@ transfer κ id accounts d =
     (cond (checkedTransfer id (length accounts) d) (checked κ accounts (le 8 d 1) (feeOf id))
     (cond (feeTransfer id (length accounts) d) (checked κ accounts (le 8 d 2) (some (le 8 d 11)))
     none))
+
+-- how many transfers, and so rows, there are
+abbrev pub given : Option Transfer → ℕ
+given none = 0
+given (some t) = 1

@@ -1,22 +1,20 @@
-// Token instructions: which one some data is, what it records of mints, which transfer it gives, and that transfer's row.
+// Token instructions: which one some data is, and which transfer it gives (the module `row` writes that one's row).
 //
 // Every function is total. An instruction is read once, into an enum of numbers; keys stay indexes until a row is written.
 ghost use mathlib.Core.Path.{_≡_};
-ghost use mathlib.Core.Bool.{_&&_, _||_, not};
-ghost use mathlib.Core.List.{_∷_, _++_};
-ghost use Prim.Native.Nat.{_<_};
+ghost use mathlib.Core.Bool.{_&&_, _||_};
 ghost use lib.Dec.{leb, eqb};
 ghost use lib.ListN.{length, getD};
-ghost use lib.Seq.{sets};
-ghost use Rattle.wire.specs.Le.{leBytes};
 ghost use Rattle.ids.specs.Keys.{keyOf};
 ghost use Rattle.token.specs.Programs.{isToken, isSpl, isToken2022};
 ghost use Rattle.token.specs.Tokens.{tokenOf};
 ghost use Rattle.token.specs.Transfers.{isZero, transfer as transferOf};
-ghost use Rattle.token.specs.Moved.{valueOf, feeless, movedBy};
-ghost use Rattle.token.specs.Rows.{mintOf, mintField, rowsOf};
+ghost use Rattle.token.specs.Moved.{valueOf, feeless, movedBy, sourceBy};
 use ids::Id;
 
+pub mod row;
+
+// A token instruction, with the amount that it names, and the fee.
 pub enum Token {
     Other,
     Initialise,
@@ -203,111 +201,13 @@ pub fn transfer(id: Id, keys: &[u8], accounts: &[u8], data: &[u8]) -> Moved
     moved_by(parse(id, accounts.len(), data), id, keys, accounts)
 }
 
-// Copies the key of an index into a row; a missing key is zero.
-pub fn put_key(out: &mut [u8], at: usize, keys: &[u8], index: usize)
-    ensures { λ _. ⌜ now (out .exit) ≡ sets (now (out .entry)) at (keyOf (now (keys .entry)) index) ⌝ }
+// The index of a transfer's source, for its mint to be looked up; 0 where there is no transfer.
+pub fn source(moved: Moved) -> u8
+    ensures { λ r. ⌜ r ≡ sourceBy moved ⌝ }
 {
-    let blank = [0u8; 32];
-    wire::put(out, at, ids::key(keys, &blank, index));
-}
-
-// Whether a mint is handed over.
-fn known(mint: &[u8]) -> bool
-    ensures { λ r. ⌜ r ≡ (eqb (length (now (mint .entry))) 32 && not (isZero (now (mint .entry)))) ⌝ }
-{
-    let blank = [0u8; 32];
-    mint.len() == 32 && !wire::equal(mint, &blank)
-}
-
-// Writes a flag and a mint.
-pub fn put_mint(out: &mut [u8], at: usize, mint: &[u8])
-    ensures { λ _. ⌜ now (out .exit) ≡ sets (now (out .entry)) at (mintField (mintOf (now (mint .entry)))) ⌝ }
-{
-    if out.len() <= at {
-        return;
-    }
-    if known(mint) {
-        wire::put_byte(out, at, 1);
-        wire::put(out, at + 1, mint);
-    } else {
-        let none = [0u8; 33];
-        wire::put(out, at, &none);
-    }
-}
-
-// The fields of a row, one after the other.
-fn put_fields(
-    out: &mut [u8],
-    at: usize,
-    invocation: u32,
-    keys: &[u8],
-    program: u32,
-    source: u8,
-    destination: u8,
-    mint: &[u8],
-    amount: u64,
-    told: u8,
-    fee: u64,
-)
-    requires { ⌜ at < length (now out) ⌝ }
-    ensures { λ _. ⌜ now (out .exit) ≡ sets (now (out .entry)) at (leBytes 4 invocation ++ keyOf (now (keys .entry)) program ++ keyOf (now (keys .entry)) source ++ keyOf (now (keys .entry)) destination ++ mintField (mintOf (now (mint .entry))) ++ leBytes 8 amount ++ (told ∷ leBytes 8 fee)) ⌝ }
-{
-    wire::put_u32(out, at, invocation);
-    put_key(out, at + 4, keys, program as usize);
-    put_key(out, at + 36, keys, source as usize);
-    put_key(out, at + 68, keys, destination as usize);
-    put_mint(out, at + 100, mint);
-    wire::put_u64(out, at + 133, amount);
-    wire::put_byte(out, at + 141, told);
-    wire::put_u64(out, at + 142, fee);
-}
-
-// Writes the row of a transfer, if there is one.
-pub fn put_row(
-    out: &mut [u8],
-    at: usize,
-    invocation: u32,
-    keys: &[u8],
-    program: u32,
-    moved: Moved,
-    mint: &[u8],
-)
-    ensures { λ _. ⌜ now (out .exit) ≡ sets (now (out .entry)) at (rowsOf invocation (keyOf (now (keys .entry)) program) (mintOf (now (mint .entry))) (valueOf (keyOf (now (keys .entry))) moved)) ⌝ }
-{
-    if out.len() <= at {
-        return;
-    }
     match moved {
-        Moved::Nothing => {}
-        Moved::FeeUnknown(source, destination, amount) => {
-            put_fields(
-                out,
-                at,
-                invocation,
-                keys,
-                program,
-                source,
-                destination,
-                mint,
-                amount,
-                0,
-                0,
-            );
-        }
-        Moved::FeeKnown(source, destination, amount, fee) => {
-            put_fields(
-                out,
-                at,
-                invocation,
-                keys,
-                program,
-                source,
-                destination,
-                mint,
-                amount,
-                1,
-                fee,
-            );
-        }
+        Moved::Nothing => 0,
+        Moved::FeeUnknown(s, _, _) => s,
+        Moved::FeeKnown(s, _, _, _) => s,
     }
 }

@@ -1,3 +1,5 @@
+-- Two tests leave nothing, and what passes both is the form (`other-mint`, `no-key`, `is-form`).
+-- Assumes nothing.
 use Prim.Native.Nat.{ℕ}
 use mathlib.Core.Path.{sym, ap, _∙_}
 use borrow.Author.Tests.{not-true, not-false}

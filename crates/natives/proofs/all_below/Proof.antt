@@ -1,3 +1,5 @@
+-- The test of the indexes from place i on is the test of all of them.
+-- Assumes nothing.
 use borrow.Author.Needs.{needs}
 use native.Mathlib.Omega.{arith}
 use mathlib.Core.Path.{_≡_, refl, sym, _∙_}

@@ -1,3 +1,5 @@
+-- The tests are the definition's, in its order.
+-- Assumes nothing.
 use mathlib.Core.Path.{sym, _∙_}
 use Rattle.natives.specs.Numbers.{formOf}
 use Rattle.natives.specs.Natives.{syncs, closes}

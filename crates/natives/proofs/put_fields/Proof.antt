@@ -1,4 +1,6 @@
-use Rattle.natives.proofs.Rows.{fields}
+-- Each call stores one field, and each field begins where the one before it ends (`fields`).
+-- Assumes nothing.
+use Rattle.natives.proofs.Fields.{fields}
 use borrow.Author.Needs.{needs}
 use Rattle.natives.proofs.put_fields.Statement.{statement}
 use Rattle.natives.proofs.put_fields.Tie as tie

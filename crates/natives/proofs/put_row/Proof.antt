@@ -1,10 +1,12 @@
+-- Past the end nothing is stored; else the case names the fields, and a key that is looked up has 32 bytes.
+-- Assumes nothing.
 use native.Mathlib.Omega.{arith}
 use mathlib.Core.Path.{refl, sym, ap, _∙_}
 use lib.ListN.{length}
 use Rattle.ids.specs.Keys.{zeroKey, keyOf}
 use Rattle.natives.specs.Numbers.{valueOf}
 use Rattle.natives.specs.Rows.{rowsOf}
-use Rattle.token.proofs.Rows.{key-length}
+use Rattle.token.proofs.Fields.{key-length}
 use Rattle.wire.specs.Sets.{sets-past}
 use borrow.Author.Needs.{needs}
 use Rattle.natives.proofs.put_row.Statement.{statement}

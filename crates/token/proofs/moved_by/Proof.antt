@@ -1,3 +1,5 @@
+-- Each arm names the case, its index bytes and what the test of zero keys answered; the definition then computes.
+-- Assumes nothing.
 use mathlib.Core.Path.{sym, _∙_}
 use borrow.Author.Needs.{needs}
 use Rattle.token.proofs.moved_by.Statement.{statement}

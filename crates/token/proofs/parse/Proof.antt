@@ -1,3 +1,5 @@
+-- Each tag leaves one test (`Reading`), and each arm makes that test.
+-- Assumes nothing.
 use Rattle.token.specs.Programs.{isToken}
 use mathlib.Core.Bool.{true}
 use borrow.Author.Tests.{not-true, not-false}

@@ -1,3 +1,5 @@
+-- The numbers are the definition's, and have the Rust's value (`tells`).
+-- Assumes nothing.
 use Rattle.token.proofs.Laws.{tells}
 use Rattle.ids.specs.Keys.{keyOf}
 use mathlib.Core.Path.{_∙_}

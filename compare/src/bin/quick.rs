@@ -1,0 +1,53 @@
+//! The quick part of the comparison: cases, ids, 20,000 generated packs, coverage, mutants. The last
+//! line says how many checks passed and failed; the exit code is 0 only if none failed.
+
+use compare::checks::{cases::CASES, coverage, ids, mutants, packs, refusals::REFUSALS, Outcome};
+use std::process::ExitCode;
+
+const SEEDS: u64 = 20_000;
+const SEEDS_PER_CHECK: u64 = 1_000;
+
+fn main() -> ExitCode {
+    let mut tally = Tally::default();
+    for (name, example) in CASES.iter().chain(REFUSALS) {
+        tally.add(name, example());
+    }
+    tally.add("the ids are distinct", ids::distinct());
+    match ids::agree() {
+        Some(outcome) => tally.add("both decoders of the ids agree", outcome),
+        None => println!("python3 is not installed: the second decoder of the ids was not run"),
+    }
+    for first in (0..SEEDS).step_by(SEEDS_PER_CHECK as usize) {
+        tally.add("generated packs", packs::hold(first..first + SEEDS_PER_CHECK));
+    }
+    for (feature, count) in coverage::count(0..SEEDS) {
+        tally.add(&feature, if count > 0 { Ok(()) } else { Err("does not occur".to_string()) });
+    }
+    for (mutant, first) in mutants::first_noticed(0..SEEDS) {
+        tally.add(mutant, first.map(|_| ()).ok_or("is not noticed".to_string()));
+    }
+    println!("{} passed, {} failed", tally.passed, tally.failed);
+    if tally.failed == 0 {
+        ExitCode::SUCCESS
+    } else {
+        ExitCode::FAILURE
+    }
+}
+
+#[derive(Default)]
+struct Tally {
+    passed: usize,
+    failed: usize,
+}
+
+impl Tally {
+    fn add(&mut self, name: &str, outcome: Outcome) {
+        match outcome {
+            Ok(()) => self.passed += 1,
+            Err(wrong) => {
+                self.failed += 1;
+                println!("{name}: {wrong}");
+            }
+        }
+    }
+}

@@ -1,0 +1,172 @@
+//! Features of names, packs, answers, mints and trees.
+
+use super::Coverage;
+use crate::generate::names::{BASE_IN, BASE_OUT, BUY, REWARD, STANDARD};
+use crate::generate::Case;
+use crate::oracle::{kept, Examined, Reply, WIDTHS};
+use original::facts::Key;
+use original::instr::pump_amm::discriminators as pump_amm;
+use pack::{Pack, MAX_BYTES};
+use std::collections::BTreeSet;
+
+impl Coverage {
+    pub fn note_room(&mut self, case: &Case, examined: &Examined) {
+        let rows = case.lengths[0] / WIDTHS[0];
+        let lacking = examined.facts.mints.len() <= rows && rows < examined.needs[0];
+        self.note_if("room lacking for ambiguous accounts alone", lacking);
+    }
+
+    pub fn note_answer(&mut self, case: &Case, reply: &Reply) {
+        let answer = &reply.answer;
+        let accepted = answer.number == 0;
+        self.note(&format!("answer {} {}", answer.number, answer.place));
+        let keys = pack::read(&case.pack).map(|pack| pack.keys.len());
+        self.note_if("257 keys refused", keys == Ok(257) && answer.number == 5);
+        self.note_if("61,440 bytes accepted", accepted && case.pack.len() == MAX_BYTES);
+        let long = case.pack.len() == MAX_BYTES + 1;
+        self.note_if("61,441 bytes refused", long && answer.number == 2);
+        let invocations = pack::read(&case.pack).map(|pack| kept(&pack));
+        self.note_if("1,025 invocations refused", invocations == Ok(1_025) && answer.number == 6);
+        self.note_if("1,024 invocations accepted", accepted && answer.counts[1] == 1_024);
+        self.note_if("256 keys accepted", accepted && keys == Ok(256));
+        if accepted {
+            let used = |t: usize| answer.counts[t] as usize * WIDTHS[t];
+            let full = (0..5).any(|t| used(t) > 0 && used(t) == case.lengths[t]);
+            self.note_if("table exactly full", full);
+            let odd = (0..5).any(|t| !case.lengths[t].is_multiple_of(WIDTHS[t]));
+            self.note_if("odd bytes behind the rows", odd);
+        }
+    }
+
+    pub fn note_names(&mut self, case: &Case) {
+        let names = &case.names[..];
+        let real = names == original::names::real();
+        let zero = names.iter().all(|byte| *byte == 0);
+        self.note_if("names real", real);
+        self.note_if("names zero", zero);
+        self.note_if("names other", !real && !zero);
+        let name = |at: usize| &names[at..at + 8];
+        let config = |at: usize| &names[at..at + 32];
+        let buy = name(BUY);
+        self.note_if("names: base in = base out", !zero && name(BASE_IN) == name(BASE_OUT));
+        self.note_if("names: buy = exact quote in", buy == pump_amm::BUY_EXACT_QUOTE_IN);
+        self.note_if("names: buy = exact quote in v2", buy == pump_amm::BUY_EXACT_QUOTE_IN_V2);
+        self.note_if("names: buy = sell", buy == pump_amm::SELL);
+        self.note_if("names: buy = sell v2", buy == pump_amm::SELL_V2);
+        self.note_if("names: equal configs", !zero && config(STANDARD) == config(REWARD));
+        self.note_if("names: standard config zero", !zero && config(STANDARD) == [0; 32]);
+        self.note_if("names: reward config zero", !zero && config(REWARD) == [0; 32]);
+    }
+
+    pub fn note_pack(&mut self, examined: &Examined) {
+        let pack = &examined.pack;
+        let keys = &pack.keys;
+        self.note_if("no keys", keys.is_empty());
+        self.note_if("zero key", keys.iter().any(|row| row.key == [0; 32]));
+        self.note_if("key with flag 0", keys.iter().any(|row| !row.whole));
+        let distinct: BTreeSet<_> = keys.iter().map(|row| row.key).collect();
+        let rows: BTreeSet<_> = keys.iter().map(|row| (row.key, row.whole)).collect();
+        self.note_if("repeated key", distinct.len() < keys.len());
+        self.note_if("repeated key with the other flag", distinct.len() < rows.len());
+        let near = |cut: fn(&Key) -> &[u8]| {
+            distinct.iter().map(cut).collect::<BTreeSet<_>>().len() < distinct.len()
+        };
+        self.note_if("keys that differ in their last byte only", near(|key| &key[..31]));
+        self.note_if("keys that differ in their first byte only", near(|key| &key[1..]));
+        let past = |index: &u32| *index as usize >= keys.len();
+        let mut balances = pack.balances.iter().map(|balance| balance.account);
+        self.note_if("balance index out of range", balances.clone().any(|index| past(&index)));
+        self.note_if("balance index past 65,535", balances.any(|index| index > 65_535));
+        let zero_mint = pack.balances.iter().any(|balance| balance.mint == [0; 32]);
+        self.note_if("balance with a zero mint", zero_mint);
+        let inner = pack.groups.iter().flat_map(|group| &group.instructions);
+        let instructions =
+            || pack.outer.iter().chain(inner.clone().map(|inner| &inner.instruction));
+        self.note_if("program index out of range", instructions().any(|one| past(&one.program)));
+        self.note_if("program index past 65,535", instructions().any(|one| one.program > 65_535));
+        let partial = |index: u32| keys.get(index as usize).is_some_and(|row| !row.whole);
+        self.note_if("program with flag 0", instructions().any(|one| partial(one.program)));
+        let mut accounts = instructions().flat_map(|one| &one.accounts);
+        let stray = accounts.any(|index| past(&u32::from(*index)));
+        self.note_if("account index out of range", stray);
+        self.note_if("pool", !pack.pools.is_empty());
+        self.note_if("zero pool", pack.pools.contains(&[0; 32]));
+        let pools: BTreeSet<_> = pack.pools.iter().collect();
+        self.note_if("pool twice", pools.len() < pack.pools.len());
+        self.note_if("over 255 pools", pack.pools.len() > 255);
+        self.note_if("over 255 balances", pack.balances.len() > 255);
+        self.note_groups(pack);
+    }
+
+    fn note_groups(&mut self, pack: &Pack) {
+        let groups = &pack.groups;
+        let kept: Vec<_> = groups
+            .iter()
+            .map(|group| group.outer)
+            .filter(|outer| (*outer as usize) < pack.outer.len())
+            .collect();
+        let distinct: BTreeSet<_> = kept.iter().collect();
+        self.note_if("several groups of one outer", distinct.len() < kept.len());
+        self.note_if("groups out of order", !kept.is_sorted());
+        self.note_if("dropped group", kept.len() < groups.len());
+        self.note_if("empty group", groups.iter().any(|group| group.instructions.is_empty()));
+        self.note_if("over 1,000 groups", groups.len() > 1_000);
+        self.note_if("group of an outer past 255", kept.iter().any(|outer| *outer > 255));
+    }
+
+    pub fn note_mints(&mut self, examined: &Examined) {
+        let mints = &examined.mints;
+        match mints.passes {
+            passes @ (0..=3 | 256) => self.note(&format!("passes {passes}")),
+            passes => self.note_if("passes over 20", passes > 20),
+        }
+        let ambiguous = mints.recorded.values().filter(|mint| mint.is_none()).count();
+        self.note_if("ambiguous account", ambiguous > 0);
+        let only = ambiguous > 0 && ambiguous == mints.recorded.len();
+        self.note_if("only ambiguous accounts", only);
+        for mark in 0..=2 {
+            let occurs = mints.marks.values().any(|one| *one == mark);
+            self.note_if(&format!("mark {mark}"), occurs);
+        }
+        let backward = |(source, destination): &(Key, Key)| {
+            mints.marks.get(source).is_some_and(|mark| *mark > 0)
+                && mints.recorded.get(destination).is_some_and(Option::is_some)
+        };
+        self.note_if(
+            "filled in against the transfer's direction",
+            mints.plain.iter().any(backward),
+        );
+        let ids = original::ids();
+        let joins = |program: Key| {
+            examined.facts.invocations.iter().any(|one| {
+                let plain = one.program == program && one.data.first() == Some(&3);
+                let transfer = one.transfer.as_ref().filter(|_| plain);
+                transfer.is_some_and(|transfer| mints.marks.get(&transfer.destination) == Some(&1))
+            })
+        };
+        self.note_if("chain over both token programs", joins(ids[0]) && joins(ids[1]));
+    }
+
+    pub fn note_trees(&mut self, examined: &Examined) {
+        let invocations = &examined.facts.invocations;
+        let n = invocations.len();
+        self.note_if("no invocation", n == 0);
+        let height = |height| invocations.iter().any(|one| one.height == height);
+        self.note_if("absent height", height(None));
+        self.note_if("height 0", height(Some(0)));
+        self.note_if("height 4,294,967,295", height(Some(u32::MAX)));
+        self.note_if("tests 2n - 3", n > 1 && examined.tests == 2 * n - 3);
+        let deep = n == 1_024 && invocations.iter().all(|one| one.end == n);
+        self.note_if("chain of 1,024 invocations", deep);
+        for group in examined.pack.groups.iter().filter(|group| group.instructions.len() >= 4) {
+            let heights: Option<Vec<u32>> =
+                group.instructions.iter().map(|one| one.height).collect();
+            let Some(heights) = heights else { continue };
+            let steps = || heights.windows(2).map(|pair| i64::from(pair[1]) - i64::from(pair[0]));
+            self.note_if("flat group", steps().all(|step| step == 0));
+            self.note_if("deep group", steps().all(|step| step == 1));
+            let up_and_down = |(k, step): (usize, i64)| step == if k % 2 == 0 { 1 } else { -1 };
+            self.note_if("zigzag group", steps().enumerate().all(up_and_down));
+        }
+    }
+}

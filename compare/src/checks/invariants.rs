@@ -1,0 +1,177 @@
+//! What holds of every answer, worked out a second way where there is one.
+
+use super::{hold, same, Outcome};
+use crate::generate::Case;
+use crate::oracle::mints::Mints;
+use crate::oracle::{blocks, kept, Examined, Refusal, Reply, MAX_INVOCATIONS, MAX_KEYS, WIDTHS};
+use original::facts::{Invocation, Key};
+use original::ids::WRAPPED_SOL;
+use std::collections::{BTreeMap, BTreeSet};
+
+/// An answer against its tables: refusals leave zeroes, rows are sorted and point where they should.
+pub fn reply(case: &Case, examined: &Result<Examined, Refusal>, reply: &Reply) -> Outcome {
+    let answer = &reply.answer;
+    same("table lengths", reply.tables.each_ref().map(Vec::len), case.lengths)?;
+    if answer.number != 0 {
+        let none = ([0; 5], 0, 0);
+        same("counts of a refusal", (answer.counts, answer.passes, answer.tests), none)?;
+        return hold("zeroed tables", reply.tables.iter().flatten().all(|byte| *byte == 0));
+    }
+    let Ok(examined) = examined else {
+        return Err("accepted, but not examined".to_string());
+    };
+    same("place of a success", answer.place, 0)?;
+    for (t, table) in reply.tables.iter().enumerate() {
+        let used = answer.counts[t] as usize * WIDTHS[t];
+        hold("room", examined.needs[t] * WIDTHS[t] <= table.len())?;
+        hold("zeroes behind the last row", table[used..].iter().all(|byte| *byte == 0))?;
+    }
+    let accounts: Vec<_> = rows(reply, 0).map(|row| &row[..32]).collect();
+    hold("table 0 ascends", accounts.is_sorted_by(|a, b| a < b))?;
+    hold("marks", rows(reply, 0).all(|row| row[64] <= 2))?;
+    for t in [2, 3, 4] {
+        let numbers: Vec<_> = rows(reply, t).map(|row| number(row, 0)).collect();
+        hold("execution order", numbers.is_sorted_by(|a, b| a < b))?;
+        hold("invocation numbers", numbers.iter().all(|number| *number < answer.counts[1]))?;
+    }
+    own_rows(reply)?;
+    wrapped_sol(reply)
+}
+
+fn rows(reply: &Reply, table: usize) -> impl Iterator<Item = &[u8]> {
+    let count = reply.answer.counts[table] as usize;
+    reply.tables[table].chunks_exact(WIDTHS[table]).take(count)
+}
+
+fn number(row: &[u8], at: usize) -> u32 {
+    u32::from_le_bytes(row[at..at + 4].try_into().expect("four bytes"))
+}
+
+/// Bits 16 and 32, leg numbers and inside bits against the rows of tables 2 and 3.
+fn own_rows(reply: &Reply) -> Outcome {
+    let owners = |t| rows(reply, t).map(|row| number(row, 0)).collect::<Vec<_>>();
+    let (transfers, legs) = (owners(2), owners(3));
+    let some_in = |owners: &[u32], from: u32, to: u32| {
+        let first = owners.partition_point(|owner| *owner < from);
+        owners.get(first).is_some_and(|owner| *owner < to)
+    };
+    for (i, row) in (0u32..).zip(rows(reply, 1)) {
+        let (end, bits) = (number(row, 14), row[18]);
+        hold("end", i < end && end <= reply.answer.counts[1])?;
+        same("transfers inside", bits & 1 != 0, some_in(&transfers, i + 1, end))?;
+        same("swaps inside", bits & 2 != 0, some_in(&legs, i + 1, end))?;
+        same("own leg", bits & 16 != 0, some_in(&legs, i, i + 1))?;
+        same("own transfer", bits & 32 != 0, some_in(&transfers, i, i + 1))?;
+        let leg = legs.binary_search(&i).map_or(0, |leg| leg as u32 + 1);
+        same("leg number", number(row, 19), leg)?;
+        hold("skipped programs are resolved", bits & 4 == 0 || bits & 8 != 0)?;
+        hold("skipped programs have no leg", bits & 4 == 0 || bits & 16 == 0)?;
+    }
+    Ok(())
+}
+
+/// Native actions are about accounts whose final mint is wrapped SOL.
+fn wrapped_sol(reply: &Reply) -> Outcome {
+    let wrapped_sol = original::ids()[WRAPPED_SOL];
+    let mints: BTreeMap<_, _> = rows(reply, 0).map(|row| (&row[..32], &row[32..64])).collect();
+    let acted = |row: &[u8]| mints.get(&row[5..37]) == Some(&&wrapped_sol[..]);
+    hold("native actions on wrapped SOL", rows(reply, 4).all(acted))
+}
+
+/// The original's answers against the definitions.
+pub fn examined(examined: &Examined) -> Outcome {
+    let invocations = &examined.facts.invocations;
+    let n = invocations.len();
+    same("kept invocations", n, kept(&examined.pack))?;
+    hold("limits", n <= MAX_INVOCATIONS && examined.pack.keys.len() <= MAX_KEYS)?;
+    let ends: Vec<_> = (0..n).map(|i| end(invocations, i)).collect();
+    same("ends", invocations.iter().map(|one| one.end).collect(), ends.clone())?;
+    same("tests by the loop", counted_tests(invocations), blocks::tests(&ends))?;
+    hold("tests at most 2n - 2", examined.tests <= (2 * n).saturating_sub(2))?;
+    mints(&examined.mints, &examined.facts.mints)
+}
+
+/// The first later invocation that is no descendant, or n.
+fn end(invocations: &[Invocation], i: usize) -> usize {
+    let later = |j: &usize| !holds(&invocations[i], &invocations[*j]);
+    (i + 1..invocations.len()).find(later).unwrap_or(invocations.len())
+}
+
+/// An outer holds all its inners; an inner holds a later one of the same outer if its inner index is
+/// greater, both heights are known and the later one is greater.
+fn holds(parent: &Invocation, child: &Invocation) -> bool {
+    let inside = match (parent.inner, child.inner) {
+        (_, None) => false,
+        (None, Some(_)) => true,
+        (Some(first), Some(later)) => {
+            let deeper = parent.height.zip(child.height).is_some_and(|(a, b)| a < b);
+            first < later && deeper
+        }
+    };
+    parent.outer == child.outer && inside
+}
+
+/// How often the backward loop asks whether one invocation holds another.
+fn counted_tests(invocations: &[Invocation]) -> usize {
+    let n = invocations.len();
+    let mut ends = vec![0; n];
+    let mut tests = 0;
+    for i in (0..n).rev() {
+        let mut end = i + 1;
+        while end < n {
+            tests += 1;
+            if !holds(&invocations[i], &invocations[end]) {
+                break;
+            }
+            end = ends[end];
+        }
+        ends[i] = end;
+    }
+    tests
+}
+
+/// Final mints: by passes, and by the chains that reach an account.
+fn mints(mints: &Mints, last: &BTreeMap<Key, Key>) -> Outcome {
+    same("final mints", last, &mints.expected)?;
+    hold("at most 256 passes", mints.passes <= 256)?;
+    same("no pass exactly without record", mints.passes == 0, mints.recorded.is_empty())?;
+    let known = mints.recorded.values().flatten().count();
+    let ambiguous = mints.recorded.len() - known;
+    same("room", mints.room, last.len() + ambiguous)?;
+    for (account, mint) in &mints.recorded {
+        same("a recorded mint stays", last.get(account), mint.as_ref())?;
+    }
+    let starts = chain_starts(mints);
+    for (account, mints) in &starts {
+        let reached = last.get(account).is_some_and(|mint| mints.contains(mint));
+        hold("filled in exactly where a chain reaches", mints.is_empty() != reached)?;
+    }
+    let reached = starts.values().filter(|mints| !mints.is_empty()).count();
+    same("nothing else is filled in", last.len(), known + reached)
+}
+
+/// For each account without record, the recorded mints that chains reach it from.
+fn chain_starts(mints: &Mints) -> BTreeMap<Key, BTreeSet<Key>> {
+    let mut joined: BTreeMap<Key, Vec<Key>> = BTreeMap::new();
+    for (a, b) in &mints.plain {
+        joined.entry(*a).or_default().push(*b);
+        joined.entry(*b).or_default().push(*a);
+    }
+    let mut starts: BTreeMap<Key, BTreeSet<Key>> = joined
+        .keys()
+        .filter(|account| !mints.recorded.contains_key(*account))
+        .map(|account| (*account, BTreeSet::new()))
+        .collect();
+    for (account, mint) in &mints.recorded {
+        let Some(mint) = mint else { continue };
+        let mut open = vec![*account];
+        while let Some(account) = open.pop() {
+            for next in joined.get(&account).into_iter().flatten() {
+                if starts.get_mut(next).is_some_and(|mints| mints.insert(*mint)) {
+                    open.push(*next);
+                }
+            }
+        }
+    }
+    starts
+}

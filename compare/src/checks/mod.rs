@@ -1,0 +1,33 @@
+//! What is checked about the oracle and the packs made for it, before anything is compared with them.
+
+pub mod cases;
+pub mod coverage;
+pub mod ids;
+pub mod invariants;
+pub mod mutants;
+pub mod packs;
+pub mod refusals;
+
+use std::fmt::Debug;
+
+/// An example by name.
+pub type Example = (&'static str, fn() -> Outcome);
+
+/// Nothing, or what is wrong.
+pub type Outcome = Result<(), String>;
+
+fn same<T: PartialEq + Debug>(what: &str, found: T, expected: T) -> Outcome {
+    if found == expected {
+        Ok(())
+    } else {
+        Err(format!("{what}: found {found:?}, expected {expected:?}"))
+    }
+}
+
+fn hold(what: &str, holds: bool) -> Outcome {
+    if holds {
+        Ok(())
+    } else {
+        Err(format!("{what}: does not hold"))
+    }
+}

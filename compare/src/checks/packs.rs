@@ -1,0 +1,29 @@
+//! Generated packs: the oracle answers each of them, and every answer keeps to its invariants.
+
+use super::{invariants, same, Outcome};
+use crate::generate::case;
+use crate::oracle::{examine_mutant, fit};
+use crate::stored;
+use std::ops::Range;
+
+/// All invariants over the packs of some seeds.
+pub fn hold(seeds: Range<u64>) -> Outcome {
+    for seed in seeds {
+        one(seed).map_err(|wrong| format!("seed {seed}: {wrong}"))?;
+    }
+    Ok(())
+}
+
+fn one(seed: u64) -> Outcome {
+    let (case, examined) = case(seed);
+    let reply = fit(&examined, &case.lengths);
+    if let Ok(examined) = &examined {
+        same("written again", examined.pack.write(), Ok(case.pack.clone()))?;
+        invariants::examined(examined)?;
+    }
+    invariants::reply(&case, &examined, &reply)?;
+    let unbroken = examine_mutant(None, &case.names, &case.pack);
+    same("mutated copy, nothing switched on", fit(&unbroken, &case.lengths), reply.clone())?;
+    let stored = stored::write(&case, &reply);
+    same("stored and read", stored::read(&stored), Some((case, reply, &[][..])))
+}

@@ -1,0 +1,8 @@
+//! The comparison: the original Rust as an oracle, packs made for it by seed, and the checks that
+//! tie the two together. Needs the source folder of the original at build time.
+
+pub mod checks;
+pub mod generate;
+pub mod listing;
+pub mod oracle;
+pub mod stored;

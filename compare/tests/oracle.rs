@@ -1,0 +1,54 @@
+//! The oracle and its generated packs, checked by themselves.
+
+use compare::checks::{cases::CASES, coverage, ids, mutants, packs, refusals::REFUSALS};
+
+#[test]
+fn cases_of_document_01() {
+    for (name, case) in CASES {
+        assert_eq!(case(), Ok(()), "{name}");
+    }
+}
+
+#[test]
+fn refusals_of_document_01() {
+    for (name, refusal) in REFUSALS {
+        assert_eq!(refusal(), Ok(()), "{name}");
+    }
+}
+
+#[test]
+fn ids_agree() {
+    assert_eq!(ids::distinct(), Ok(()));
+    match ids::agree() {
+        Some(outcome) => assert_eq!(outcome, Ok(())),
+        None => println!("no python3: the second decoder was not run"),
+    }
+}
+
+#[test]
+fn first_half_of_the_packs() {
+    assert_eq!(packs::hold(0..10_000), Ok(()));
+}
+
+#[test]
+fn second_half_of_the_packs() {
+    assert_eq!(packs::hold(10_000..20_000), Ok(()));
+}
+
+#[test]
+fn every_feature_occurs() {
+    let features = coverage::count(0..20_000);
+    for (name, count) in &features {
+        println!("{count:>8} {name}");
+    }
+    let missing: Vec<_> = features.iter().filter(|feature| *feature.1 == 0).collect();
+    assert!(missing.is_empty(), "missing: {missing:?}");
+}
+
+#[test]
+fn every_mutant_is_noticed() {
+    for (name, first) in mutants::first_noticed(0..20_000) {
+        println!("{first:?} {name}");
+        assert!(first.is_some(), "{name} is not noticed");
+    }
+}
