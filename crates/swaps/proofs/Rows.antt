@@ -12,14 +12,15 @@ use lib.Dec.{ltb, eqb}
 use lib.ListN.{length, take, drop, set, length-append, length-drop}
 use lib.Seq.{sets, length-take-le}
 use Rattle.wire.specs.Le.{leBytes}
-use Rattle.wire.specs.Same.{same}
+use Rattle.wire.specs.Same.{same, same-true}
 use Rattle.wire.specs.Sets.{sets-append}
 use Rattle.wire.proofs.Laws.{leBytes-length}
 use Rattle.wire.specs.Below.{and-left}
+use Rattle.wire.specs.Zeros.{zeros}
 use Rattle.ids.specs.Keys.{Key, zeroKey, keyOf}
 use Rattle.swaps.specs.declared.Swap.{Swap}
 use Rattle.swaps.specs.Leg.{contains, explicit, orElse, legWith}
-use Rattle.swaps.specs.Row.{mintBytes, keyBytes, endBytes, legRow, isMint, known, keysFrom}
+use Rattle.swaps.specs.Row.{mintBytes, bit, keyBytes, endBytes, legRow, isMint, known, side, keysFrom}
 
 -- a key of the pack has 32 bytes
 pub key-length : (ks : List ℕ) (i : ℕ) → length (keyOf ks i) ≡ 32
@@ -49,6 +50,29 @@ pub mint-length : (m : List ℕ) (paired : Bool) (key : Key) → length key ≡ 
 unfolding isMint
 mint-length m paired key h =
     some-length (isMint m) m (explicit paired key) (λ e. eqb-true (length m) 32 (and-left (eqb (length m) 32) _ e)) (explicit-length paired (same key zeroKey) key h)
+
+-- a key that is not zero is a mint, and the zero key is none
+is-key : (key : Key) → same key zeroKey ≡ false → length key ≡ 32 → isMint key ≡ true
+unfolding isMint
+is-key key f h = rw (f, h)
+
+zero-field : 0 ∷ zeros 32 ≡ bit (isMint zeroKey) ∷ zeroKey
+unfolding isMint same zeroKey
+zero-field = refl
+
+-- what stands in a mint's field is its flag and `side`
+field : (t paired u : Bool) (m : List ℕ) (key : Key) → isMint m ≡ t → same key zeroKey ≡ u → length key ≡ 32
+    → mintBytes (orElse (cond t (some m) none) (cond paired (cond u none (some key)) none)) ≡ bit (isMint (cond t m (cond paired key zeroKey))) ∷ cond t m (cond paired key zeroKey)
+unfolding mintBytes
+field true paired u m key e f h = rw e
+field false true true m key e f h = rw (same-true key zeroKey f) zero-field
+field false true false m key e f h = rw (is-key key f h)
+field false false u m key e f h = zero-field
+
+pub mint-field : (m : List ℕ) (paired : Bool) (key : Key) → length key ≡ 32
+    → mintBytes (orElse (known m) (explicit paired key)) ≡ bit (isMint (side m paired key zeroKey)) ∷ side m paired key zeroKey
+unfolding side
+mint-field m paired key h = field (isMint m) paired (same key zeroKey) m key refl refl h
 
 -- five keys have 160 bytes
 keys-length : (a b c d e : Key) → length a ≡ 32 → length b ≡ 32 → length c ≡ 32 → length d ≡ 32 → length e ≡ 32 → length (keyBytes a b c d e) ≡ 160

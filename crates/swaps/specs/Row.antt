@@ -44,6 +44,10 @@ isMint m = eqb (length m) 32 && not (same m zeroKey)
 abbrev pub known : List ℕ → Option Key
 known m = cond (isMint m) (some m) none
 
+-- which bytes stand in a mint's field: the mint handed in, else the pair's key, else the stand-in
+unfoldable pub side : List ℕ → Bool → Key → Key → Key
+side m paired key blank = cond (isMint m) m (cond paired key blank)
+
 -- the m keys from row i on of a run of 32-byte rows
 unfoldable pub keysFrom : List ℕ → ℕ → ℕ → List Key
 keysFrom s zero i = []

@@ -1,6 +1,7 @@
 // Raydium AMM V4.
 use crate::Found;
 use crate::draft::stated;
+use crate::fields::choose;
 ghost use mathlib.Core.Path.{_≡_};
 ghost use mathlib.Core.Bool.{_&&_, _||_};
 ghost use lib.Dec.{leb, eqb};
@@ -45,29 +46,20 @@ fn long(tag: u8, n: usize, data: &[u8]) -> Found
     if data.len() < 17 {
         return Found::Nothing;
     }
-    if n == 17 {
-        Found::Leg(stated(
-            4,
-            1,
-            16,
-            14,
-            15,
-            tag == 9,
-            wire::u64_at(data, 1),
-            wire::u64_at(data, 9),
-        ))
-    } else {
-        Found::Leg(stated(
-            4,
-            1,
-            17,
-            15,
-            16,
-            tag == 9,
-            wire::u64_at(data, 1),
-            wire::u64_at(data, 9),
-        ))
-    }
+    let early = n == 17;
+    let trader = choose(early, 16, 17);
+    let input = choose(early, 14, 15);
+    let output = choose(early, 15, 16);
+    Found::Leg(stated(
+        4,
+        1,
+        trader,
+        input,
+        output,
+        tag == 9,
+        wire::u64_at(data, 1),
+        wire::u64_at(data, 9),
+    ))
 }
 
 pub fn leg(n: usize, data: &[u8]) -> Found

@@ -65,3 +65,10 @@ pub fn same_account(keys: &[u8], accounts: &[u8], x: usize, y: usize) -> bool
         account(keys, &blank, accounts, y),
     )
 }
+
+// One account or the other.
+pub fn choose(test: bool, x: u8, y: u8) -> u8
+    ensures { λ r. ⌜ r ≡ cond test x y ⌝ }
+{
+    if test { x } else { y }
+}

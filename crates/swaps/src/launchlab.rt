@@ -8,6 +8,7 @@ use crate::draft::in_mode;
 use crate::draft::pair_by;
 use crate::draft::plain;
 use crate::fields::account;
+use crate::fields::choose;
 use crate::fields::is;
 use crate::fields::same_account;
 ghost use mathlib.Core.Path.{_≡_};
@@ -59,15 +60,10 @@ fn draft(names: &[u8], keys: &[u8], accounts: &[u8], data: &[u8], buy: bool, exa
     let amount = wire::u64_at(data, 8);
     let threshold = wire::u64_at(data, 16);
     let mode = mode_of(names, keys, accounts);
-    if buy {
-        let same = same_account(keys, accounts, 6, 6);
-        let s = plain(2, 4, 0, 6, 5, exact, amount, threshold);
-        Found::Leg(in_mode(mode, pair_by(same, 10, 9, s)))
-    } else {
-        let same = same_account(keys, accounts, 5, 6);
-        let s = plain(2, 4, 0, 5, 6, exact, amount, threshold);
-        Found::Leg(in_mode(mode, pair_by(same, 10, 9, s)))
-    }
+    let input = choose(buy, 6, 5);
+    let same = same_account(keys, accounts, input as usize, 6);
+    let s = plain(2, 4, 0, input, choose(buy, 5, 6), exact, amount, threshold);
+    Found::Leg(in_mode(mode, pair_by(same, 10, 9, s)))
 }
 
 pub fn leg(names: &[u8], keys: &[u8], accounts: &[u8], data: &[u8]) -> Found

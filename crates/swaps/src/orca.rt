@@ -5,6 +5,7 @@ use crate::discriminators::SWAP;
 use crate::discriminators::SWAP_V2;
 use crate::draft::pair_by;
 use crate::draft::plain;
+use crate::fields::choose;
 use crate::fields::flag;
 use crate::fields::is;
 use crate::fields::is_either;
@@ -35,11 +36,16 @@ fn takes(n: usize, data: &[u8]) -> bool
 fn v1(direction: bool, exact: bool, amount: u64, threshold: u64) -> Swap
     ensures { λ r. ⌜ r ≡ orcaV1 direction exact amount threshold ⌝ }
 {
-    if direction {
-        plain(6, 2, 1, 3, 5, exact, amount, threshold)
-    } else {
-        plain(6, 2, 1, 5, 3, exact, amount, threshold)
-    }
+    plain(
+        6,
+        2,
+        1,
+        choose(direction, 3, 5),
+        choose(direction, 5, 3),
+        exact,
+        amount,
+        threshold,
+    )
 }
 
 // `swap_v2`: the pair goes by the input's key, so equal token accounts flip it.
@@ -53,13 +59,19 @@ fn v2(
 ) -> Swap
     ensures { λ r. ⌜ r ≡ orcaV2 (account (keyOf (now (keys .entry))) (now (accounts .entry))) direction exact amount threshold ⌝ }
 {
-    if direction {
-        let same = same_account(keys, accounts, 7, 7);
-        pair_by(same, 5, 6, plain(6, 4, 3, 7, 9, exact, amount, threshold))
-    } else {
-        let same = same_account(keys, accounts, 9, 7);
-        pair_by(same, 5, 6, plain(6, 4, 3, 9, 7, exact, amount, threshold))
-    }
+    let input = choose(direction, 7, 9);
+    let same = same_account(keys, accounts, input as usize, 7);
+    let s = plain(
+        6,
+        4,
+        3,
+        input,
+        choose(direction, 9, 7),
+        exact,
+        amount,
+        threshold,
+    );
+    pair_by(same, 5, 6, s)
 }
 
 pub fn leg(keys: &[u8], accounts: &[u8], data: &[u8]) -> Found
@@ -74,18 +86,13 @@ pub fn leg(keys: &[u8], accounts: &[u8], data: &[u8]) -> Found
     if data.len() < 24 {
         return Found::Nothing;
     }
+    let direction = flag(data, 41);
+    let exact = flag(data, 40);
     let amount = wire::u64_at(data, 8);
     let threshold = wire::u64_at(data, 16);
     if is(data, SWAP_V2) {
-        Found::Leg(v2(
-            keys,
-            accounts,
-            flag(data, 41),
-            flag(data, 40),
-            amount,
-            threshold,
-        ))
+        Found::Leg(v2(keys, accounts, direction, exact, amount, threshold))
     } else {
-        Found::Leg(v1(flag(data, 41), flag(data, 40), amount, threshold))
+        Found::Leg(v1(direction, exact, amount, threshold))
     }
 }

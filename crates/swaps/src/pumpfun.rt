@@ -10,9 +10,10 @@ use crate::discriminators::SELL_V3;
 use crate::draft::pair_by;
 use crate::draft::plain;
 use crate::fields::account;
+use crate::fields::choose;
 use crate::fields::is;
 ghost use mathlib.Core.Path.{_≡_};
-ghost use mathlib.Core.Bool.{cond, not, _&&_, _||_};
+ghost use mathlib.Core.Bool.{not, _&&_, _||_};
 ghost use lib.ListN.{length};
 ghost use Rattle.ids.specs.Keys.{keyOf, account as accountOf};
 ghost use Rattle.swaps.specs.Data.{is as isOf};
@@ -87,13 +88,6 @@ fn wrapped(keys: &[u8], accounts: &[u8]) -> bool
 {
     let blank = [0u8; 32];
     ids::is_id(2, account(keys, &blank, accounts, 2))
-}
-
-// One account or the other.
-fn choose(test: bool, x: u8, y: u8) -> u8
-    ensures { λ r. ⌜ r ≡ cond test x y ⌝ }
-{
-    if test { x } else { y }
 }
 
 fn draft(

@@ -7,6 +7,7 @@ use crate::discriminators::SELL;
 use crate::discriminators::SELL_V2;
 use crate::draft::pair_by;
 use crate::draft::plain;
+use crate::fields::choose;
 use crate::fields::is_either;
 use crate::fields::is_flag;
 use crate::fields::same_account;
@@ -50,13 +51,10 @@ fn draft(keys: &[u8], accounts: &[u8], data: &[u8], buy: bool, exact: bool) -> F
     }
     let amount = wire::u64_at(data, 8);
     let threshold = wire::u64_at(data, 16);
-    if buy {
-        let same = same_account(keys, accounts, 6, 6);
-        Found::Leg(pair_by(same, 4, 3, plain(1, 0, 1, 6, 5, exact, amount, threshold)))
-    } else {
-        let same = same_account(keys, accounts, 5, 6);
-        Found::Leg(pair_by(same, 4, 3, plain(1, 0, 1, 5, 6, exact, amount, threshold)))
-    }
+    let input = choose(buy, 6, 5);
+    let same = same_account(keys, accounts, input as usize, 6);
+    let s = plain(1, 0, 1, input, choose(buy, 5, 6), exact, amount, threshold);
+    Found::Leg(pair_by(same, 4, 3, s))
 }
 
 pub fn leg(names: &[u8], keys: &[u8], accounts: &[u8], data: &[u8]) -> Found

@@ -3,11 +3,10 @@ use crate::Swap;
 ghost use mathlib.Core.Path.{_≡_};
 ghost use mathlib.Core.Bool.{_&&_};
 ghost use lib.Dec.{eqb};
-ghost use mathlib.Core.List.{_∷_};
 ghost use lib.Seq.{sets};
 ghost use Rattle.ids.specs.Keys.{keyOf};
 ghost use Rattle.swaps.specs.Leg.{contains, explicit, orElse, legWith};
-ghost use Rattle.swaps.specs.Row.{bit as bitOf, mintBytes, keyBytes, endBytes, legRow, known as knownOf, isMint, poolsOf};
+ghost use Rattle.swaps.specs.Row.{bit as bitOf, mintBytes, keyBytes, endBytes, legRow, known as knownOf, isMint, side as sideOf, poolsOf};
 
 // Whether a run of 32-byte rows holds a key.
 fn holds(pools: &[u8], key: &[u8]) -> bool
@@ -85,49 +84,32 @@ fn is_mint(mint: &[u8]) -> bool
     !wire::equal(mint, &blank)
 }
 
-// A flag and a mint, or 33 zero bytes.
-fn put_some(out: &mut [u8], at: usize, flag: u8, mint: &[u8])
-    ensures { λ _. ⌜ now (out .exit) ≡ sets (now (out .entry)) at (flag ∷ now (mint .entry)) ⌝ }
+// The mint of one side: the known one, else the explicit pair's, else the stand-in.
+fn side<'a>(known: &'a [u8], paired: bool, key: &'a [u8], blank: &'a [u8]) -> &'a [u8]
+    ensures { λ r. ⌜ now r ≡ sideOf (now (known .entry)) paired (now (key .entry)) (now (blank .entry)) ⌝ }
+{
+    if is_mint(known) {
+        return known;
+    }
+    if paired { key } else { blank }
+}
+
+// Its flag and bytes.
+fn put_side<'a>(out: &mut [u8], at: usize, known: &'a [u8], keys: &'a [u8], paired: bool, index: u8)
+    ensures { λ _. ⌜ now (out .exit) ≡ sets (now (out .entry)) at (mintBytes (orElse (knownOf (now (known .entry))) (explicit paired (keyOf (now (keys .entry)) index)))) ⌝ }
 {
     if out.len() <= at {
         return;
     }
-    wire::put_byte(out, at, flag);
-    wire::put(out, at + 1, mint);
-}
-
-// The mint of one side: the known one, else the explicit pair's, else none.
-fn put_mint(out: &mut [u8], at: usize, known: &[u8], paired: bool, key: &[u8])
-    ensures { λ _. ⌜ now (out .exit) ≡ sets (now (out .entry)) at (mintBytes (orElse (knownOf (now (known .entry))) (explicit paired (now (key .entry))))) ⌝ }
-{
     let blank = [0u8; 32];
-    if is_mint(known) {
-        put_some(out, at, 1, known);
-        return;
-    }
-    if !paired {
-        put_some(out, at, 0, &blank);
-        return;
-    }
-    if wire::equal(key, &blank) {
-        put_some(out, at, 0, &blank);
-        return;
-    }
-    put_some(out, at, 1, key);
-}
-
-// The same, with the pair's account as an index.
-fn put_side(out: &mut [u8], at: usize, known: &[u8], keys: &[u8], paired: bool, index: u8)
-    ensures { λ _. ⌜ now (out .exit) ≡ sets (now (out .entry)) at (mintBytes (orElse (knownOf (now (known .entry))) (explicit paired (keyOf (now (keys .entry)) index)))) ⌝ }
-{
-    let blank = [0u8; 32];
-    put_mint(
-        out,
-        at,
+    let mint = side(
         known,
         paired,
         ids::key(keys, &blank, index as usize),
+        &blank,
     );
+    wire::put_byte(out, at, bit(is_mint(mint)));
+    wire::put(out, at + 1, mint);
 }
 
 // What follows the mints.
@@ -154,15 +136,15 @@ fn put_end(
 
 // The row at `at`: the invocation's number, its program's index, its leg as `leg` answers it, the mints known of the input account and of the output
 // account (32 bytes each, all zero if none is known), and the graduated pools.
-pub fn put_leg(
+pub fn put_leg<'a>(
     out: &mut [u8],
     at: usize,
     invocation: u32,
     program: usize,
-    keys: &[u8],
+    keys: &'a [u8],
     leg: Swap,
-    spent: &[u8],
-    bought: &[u8],
+    spent: &'a [u8],
+    bought: &'a [u8],
     pools: &[u8],
 )
     ensures { λ _. ⌜ now (out .exit) ≡ sets (now (out .entry)) at (legRow invocation (keyOf (now (keys .entry)) program) (legWith (keyOf (now (keys .entry))) (knownOf (now (spent .entry))) (knownOf (now (bought .entry))) (poolsOf (now (pools .entry))) leg)) ⌝ }

@@ -8,68 +8,60 @@ use Rattle.swaps.proofs.launchlab.draft.Lts as lts
 use Rattle.swaps.proofs.draft.in_mode.Reads as in-mode-reads
 use Rattle.swaps.proofs.draft.pair_by.Reads as pair-by-reads
 use Rattle.swaps.proofs.draft.plain.Reads as plain-reads
+use Rattle.swaps.proofs.fields.choose.Reads as choose-reads
 use Rattle.swaps.proofs.fields.same_account.Reads as same-account-reads
 use Rattle.swaps.proofs.launchlab.mode_of.Reads as mode-of-reads
 use Rattle.wire.proofs.u64_at.Reads as u64-at-reads
 
--- src/launchlab.rt:50:9
+-- src/launchlab.rt:58:9
 returns : tie.Need-returns
 unfolding launchLabLeg
 returns c = simp (lt-leb _ _ (c .if1 .taken))
 
--- src/launchlab.rt:52:9
+-- src/launchlab.rt:60:9
 u64-at-requires : tie.Need-u64-at-requires
 u64-at-requires c κs = search needs
 
--- src/launchlab.rt:53:9
+-- src/launchlab.rt:61:9
 u64-at-requires-2 : tie.Need-u64-at-requires-2
 u64-at-requires-2 c κs = search needs
 
--- src/launchlab.rt:54:9
+-- src/launchlab.rt:62:9
 mode-of-requires : tie.Need-mode-of-requires
 mode-of-requires c κs = search needs
 
--- src/launchlab.rt:56:42
+-- src/launchlab.rt:63:9
+choose-requires : tie.Need-choose-requires
+choose-requires c κs = search needs
+
+-- src/launchlab.rt:64:45
+cast-same-account : tie.Need-cast-same-account
+cast-same-account c = search needs
+
+-- src/launchlab.rt:64:9
 same-account-requires : tie.Need-same-account-requires
 same-account-requires c κs = search needs
 
--- src/launchlab.rt:56:85
+-- src/launchlab.rt:65:35
+choose-requires-2 : tie.Need-choose-requires-2
+choose-requires-2 c κs = search needs
+
+-- src/launchlab.rt:65:9
 plain-requires : tie.Need-plain-requires
 plain-requires c κs = search needs
 
--- src/launchlab.rt:56:34
+-- src/launchlab.rt:66:30
 pair-by-requires : tie.Need-pair-by-requires
 pair-by-requires c κs = search needs
 
--- src/launchlab.rt:56:20
+-- src/launchlab.rt:66:16
 in-mode-requires : tie.Need-in-mode-requires
 in-mode-requires c κs = search needs
 
--- src/launchlab.rt:58:42
-same-account-requires-2 : tie.Need-same-account-requires-2
-same-account-requires-2 c κs = search needs
-
--- src/launchlab.rt:58:85
-plain-requires-2 : tie.Need-plain-requires-2
-plain-requires-2 c κs = search needs
-
--- src/launchlab.rt:58:34
-pair-by-requires-2 : tie.Need-pair-by-requires-2
-pair-by-requires-2 c κs = search needs
-
--- src/launchlab.rt:58:20
-in-mode-requires-2 : tie.Need-in-mode-requires-2
-in-mode-requires-2 c κs = search needs
-
--- src/launchlab.rt:46:1
+-- src/launchlab.rt:54:1
 returns-2 : tie.Need-returns-2
 unfolding launchLabLeg
-returns-2 c = simp (le-leb _ _ (c .before .before .before .before .before .before .before .before .if1 .left), c .before .before .before .before .if2 .taken, c .in-mode .ensures, c .before .pair-by .ensures, c .before .before .plain .ensures, c .before .before .before .same-account .ensures, c .before .before .before .before .before .mode-of .ensures, c .before .before .before .before .before .before .u64-at2 .ensures, c .before .before .before .before .before .before .before .u64-at .ensures)
-
--- src/launchlab.rt:46:1
-returns-3 : tie.Need-returns-3
-unfolding launchLabLeg
-returns-3 c = simp (le-leb _ _ (c .before .before .before .before .before .before .before .before .if1 .left), c .before .before .before .before .if2 .left, c .in-mode2 .ensures, c .before .pair-by2 .ensures, c .before .before .plain2 .ensures, c .before .before .before .same-account2 .ensures, c .before .before .before .before .before .mode-of .ensures, c .before .before .before .before .before .before .u64-at2 .ensures, c .before .before .before .before .before .before .before .u64-at .ensures)
+returns-2 c = simp (le-leb _ _ (c .before .before .before .before .before .before .before .before .before .if1 .left), c .in-mode .ensures, c .before .pair-by .ensures, c .before .before .plain .ensures, c .before .before .before .choose2 .ensures, c .before .before .before .before .same-account .ensures, c .before .before .before .before .before .choose .ensures, c .before .before .before .before .before .before .mode-of .ensures, c .before .before .before .before .before .before .before .u64-at2 .ensures, c .before .before .before .before .before .before .before .before .u64-at .ensures)
 
 pub draft-spec : {M : Type 1} → statement M
 draft-spec =
@@ -79,13 +71,11 @@ draft-spec =
     u64-at-requires
     u64-at-requires-2
     mode-of-requires
+    choose-requires
+    cast-same-account
     same-account-requires
+    choose-requires-2
     plain-requires
     pair-by-requires
     in-mode-requires
-    same-account-requires-2
-    plain-requires-2
-    pair-by-requires-2
-    in-mode-requires-2
-    returns-2
-    returns-3)
+    returns-2)

@@ -14,57 +14,57 @@ use Rattle.swaps.proofs.row.put_side.Reads as put-side-reads
 use Rattle.wire.proofs.put_byte.Reads as put-byte-reads
 use Rattle.wire.proofs.put_u32.Reads as put-u32-reads
 
--- src/row.rt:138:9
+-- src/row.rt:148:9
 returns : tie.Need-returns
 returns c =
     let h = c .if1 .taken in
     rw sets-past
 
--- src/row.rt:140:5
+-- src/row.rt:150:5
 put-u32-requires : tie.Need-put-u32-requires
 put-u32-requires c κs = search needs
 
--- src/row.rt:141:25
+-- src/row.rt:151:25
 add-put-byte : tie.Need-add-put-byte
 add-put-byte c = search needs
 
--- src/row.rt:141:5
+-- src/row.rt:151:5
 put-byte-requires : tie.Need-put-byte-requires
 put-byte-requires c κs = search needs
 
--- src/row.rt:142:19
+-- src/row.rt:154:9
 add-put-keys : tie.Need-add-put-keys
 add-put-keys c = search needs
 
--- src/row.rt:142:5
+-- src/row.rt:152:5
 put-keys-requires : tie.Need-put-keys-requires
 put-keys-requires c κs = search needs
 
--- src/row.rt:143:19
+-- src/row.rt:162:19
 add-put-side : tie.Need-add-put-side
 add-put-side c = search needs
 
--- src/row.rt:143:5
+-- src/row.rt:162:5
 put-side-requires : tie.Need-put-side-requires
 put-side-requires c κs = search needs
 
--- src/row.rt:144:19
+-- src/row.rt:163:19
 add-put-side-2 : tie.Need-add-put-side-2
 add-put-side-2 c = search needs
 
--- src/row.rt:144:5
+-- src/row.rt:163:5
 put-side-requires-2 : tie.Need-put-side-requires-2
 put-side-requires-2 c κs = search needs
 
--- src/row.rt:145:18
+-- src/row.rt:166:9
 add-put-end : tie.Need-add-put-end
-add-put-end c = omega (arith, c .before .before .before .before .before .before .before .before .before .before .before .before .before .before .before .before .before .before .before .before .before)
+add-put-end c = search needs
 
--- src/row.rt:145:76
+-- src/row.rt:171:9
 graduated-requires : tie.Need-graduated-requires
 graduated-requires c κs = search needs
 
--- src/row.rt:145:5
+-- src/row.rt:164:5
 put-end-requires : tie.Need-put-end-requires
 put-end-requires c κs = search needs
 
