@@ -13,6 +13,7 @@ fn main() -> ExitCode {
         tally.add(name, example());
     }
     tally.add("the ids are distinct", ids::distinct());
+    tally.add("the bindings' ids and names are the original's", ids::bindings());
     match ids::agree() {
         Some(outcome) => tally.add("both decoders of the ids agree", outcome),
         None => println!("python3 is not installed: the second decoder of the ids was not run"),

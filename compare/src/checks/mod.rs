@@ -7,6 +7,7 @@ pub mod invariants;
 pub mod mutants;
 pub mod packs;
 pub mod refusals;
+pub mod rows;
 
 use std::fmt::Debug;
 
