@@ -27,7 +27,10 @@ fn main() {
 fn folder() -> PathBuf {
     match env::var_os("MBELAGUY_LIB_DIR") {
         Some(folder) => PathBuf::from(folder),
-        None => Path::new(env!("CARGO_MANIFEST_DIR")).join("../../target/staticlib"),
+        None => {
+            let root = Path::new(env!("CARGO_MANIFEST_DIR")).ancestors().nth(2);
+            root.unwrap_or(Path::new("/")).join("target/staticlib")
+        }
     }
 }
 

@@ -8,6 +8,7 @@ pub mod mutants;
 pub mod packs;
 pub mod refusals;
 pub mod rows;
+pub mod sample;
 
 use std::fmt::Debug;
 
