@@ -137,10 +137,7 @@ fn transfer(transfer: &Transfer) -> Phrase {
     phrase.extend([words("to"), Part::Key(transfer.destination)]);
     match transfer.fee {
         Some(0) => {}
-        Some(fee) => {
-            phrase.push(words("with a fee of"));
-            phrase.extend(amount(fee, transfer.mint));
-        }
+        Some(fee) => phrase.push(words(format!("with a fee of {}", units(fee, transfer.mint)))),
         None => phrase.push(words("(fee unknown)")),
     }
     phrase
@@ -167,12 +164,21 @@ fn native(native: &Native) -> Phrase {
     }
 }
 
-/// Wrapped SOL has nine decimals; of other mints the pack tells none, so their units are counted.
+/// So much of a mint.
 fn amount(value: u64, mint: Option<Key>) -> Phrase {
+    let units = units(value, mint);
     match mint {
-        Some(ids::WRAPPED_SOL) => vec![words(format!("{} wrapped", sol(value)))],
-        Some(mint) => vec![words(format!("{} of", grouped(value))), Part::Key(mint)],
-        None => vec![words(format!("{} of an unknown mint", grouped(value)))],
+        Some(ids::WRAPPED_SOL) => vec![words(format!("{units} wrapped"))],
+        Some(mint) => vec![words(format!("{units} of")), Part::Key(mint)],
+        None => vec![words(format!("{units} of an unknown mint"))],
+    }
+}
+
+/// Wrapped SOL has nine decimals; of other mints the pack tells none, so their units are counted.
+fn units(value: u64, mint: Option<Key>) -> String {
+    match mint {
+        Some(ids::WRAPPED_SOL) => sol(value),
+        _ => grouped(value),
     }
 }
 
