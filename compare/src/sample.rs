@@ -5,13 +5,14 @@ use crate::listing::listing;
 use crate::oracle::reply;
 use mbelaguy::pack::{Balance, Group, Inner, Instruction, KeyRow, Pack};
 use mbelaguy::{base58, ids, Key, Names, Tables, MOST_ROWS, WIDTHS};
-use show::{text, Keys, Report};
+use show::{page, text, Keys, Report};
 
 /// What the sample's files are called, without their endings.
 pub const NAME: &str = "aggregator_swap";
 
-/// The sample's files by their endings: names and pack, what `routes` prints, what `show` prints.
-pub fn files() -> Result<[(&'static str, Vec<u8>); 3], String> {
+/// The sample's files by their endings: names and pack, what `routes` prints, what `show` prints, and
+/// the page that it writes.
+pub fn files() -> Result<[(&'static str, Vec<u8>); 4], String> {
     let pack = sample().write().map_err(|error| error.to_string())?;
     let names = Names::ORIGINAL.bytes();
     let input = [&names[..], &pack].concat();
@@ -19,9 +20,10 @@ pub fn files() -> Result<[(&'static str, Vec<u8>); 3], String> {
     let reply = reply(&names, &pack, &lengths);
     let tables = Tables::read(&reply.answer, reply.tables).map_err(|error| error.to_string())?;
     let report = Report::new(&pack, &reply.answer, &tables).map_err(|error| error.to_string())?;
-    let shown = text(&report, Keys::Short);
-    let listed = listing(&input);
-    Ok([("bin", input), ("listing", listed.into_bytes()), ("txt", shown.into_bytes())])
+    let listed = listing(&input).into_bytes();
+    let shown = text(&report, Keys::Short).into_bytes();
+    let page = page(NAME, &Ok(report), Keys::Short).into_bytes();
+    Ok([("bin", input), ("listing", listed), ("txt", shown), ("html", page)])
 }
 
 /// An aggregator's program; nothing is known about it but its key.

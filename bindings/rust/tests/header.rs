@@ -11,6 +11,9 @@ use std::collections::BTreeMap;
 
 const HEADER: &str = include_str!("../../c/mbelaguy.h");
 
+/// A field by its name in the header, and its bytes.
+type Field<'a> = (&'a str, &'a [u8]);
+
 /// The numbers that the header defines, by name without `MBELAGUY_`.
 struct Header(BTreeMap<&'static str, usize>);
 
@@ -28,12 +31,12 @@ impl Header {
     }
 
     /// A row of a table with these fields.
-    fn row(&self, table: &str, fields: &[(&str, &[u8])]) -> Vec<u8> {
+    fn row(&self, table: &str, fields: &[Field<'_>]) -> Vec<u8> {
         self.lay_out(table, "ROW", fields)
     }
 
     /// Bytes with these fields, as many as the header says of the whole.
-    fn lay_out(&self, kind: &str, whole: &str, fields: &[(&str, &[u8])]) -> Vec<u8> {
+    fn lay_out(&self, kind: &str, whole: &str, fields: &[Field<'_>]) -> Vec<u8> {
         let mut bytes = vec![0; self.get(&format!("{kind}_{whole}"))];
         for (name, field) in fields {
             let at = self.get(&format!("{kind}_{name}"));
@@ -137,13 +140,12 @@ fn packs() {
     let header = Header::read();
     let keys = header.row("KEY", &[("FLAG", &[1]), ("KEY", &key(1))]);
     let balances = header.row("BALANCE", &[("ACCOUNT", &[2, 3, 4, 5]), ("MINT", &key(6))]);
-    let fields: &[(&str, &[u8])] =
-        &[("PROGRAM", &[7, 8, 9, 10]), ("ACCOUNTS", &[2]), ("DATA", &[1])];
+    let fields: &[Field<'_>] = &[("PROGRAM", &[7, 8, 9, 10]), ("ACCOUNTS", &[2]), ("DATA", &[1])];
     let mut outer = header.lay_out("INSTRUCTION", "HEADER", fields);
     outer.extend([11, 12, 13]);
     let mut inner =
         header.lay_out("GROUP", "HEADER", &[("OUTER", &[14, 15, 16, 17]), ("COUNT", &[1])]);
-    let height: &[(&str, &[u8])] = &[("FLAG", &[1]), ("HEIGHT", &[18, 19, 20, 21])];
+    let height: &[Field<'_>] = &[("FLAG", &[1]), ("HEIGHT", &[18, 19, 20, 21])];
     inner.extend(header.lay_out("HEIGHT", "BYTES", height));
     inner.extend(&outer);
     let sections = [keys, balances, outer, inner, key(22).to_vec()];
@@ -169,7 +171,7 @@ const fn key(fill: u8) -> Key {
 #[test]
 fn mint_rows() {
     let mark = [Mark::InDoubt as u8];
-    let fields: &[(&str, &[u8])] = &[("ACCOUNT", &key(1)), ("MINT", &key(2)), ("MARK", &mark)];
+    let fields: &[Field<'_>] = &[("ACCOUNT", &key(1)), ("MINT", &key(2)), ("MARK", &mark)];
     let expected = MintRow { account: key(1), mint: key(2), mark: Mark::InDoubt };
     assert_eq!(Row::read(&Header::read().row("MINT", fields)), Some(expected));
 }
@@ -280,7 +282,7 @@ fn native_rows() {
     let (invocation, account, lamports) = ([1, 2, 3, 4], key(5), [9, 0, 0, 0, 0, 0, 0, 10]);
     let fund = Action::Fund { source: key(6), lamports: 0x0a00_0000_0000_0009 };
     let close = Action::Close { destination: key(6), authority: key(7) };
-    let kinds: [(&str, Action, &[(&str, &[u8])]); 3] = [
+    let kinds: [(&str, Action, &[Field<'_>]); 3] = [
         ("KIND_FUND", fund, &[("OTHER", &key(6)), ("LAMPORTS", &lamports)]),
         ("KIND_SYNC", Action::Sync, &[]),
         ("KIND_CLOSE", close, &[("OTHER", &key(6)), ("AUTHORITY", &key(7))]),
@@ -288,7 +290,7 @@ fn native_rows() {
     for (name, action, more) in kinds {
         let kind = header.get(name) as u8;
         assert_eq!(kind, action.kind(), "{name}");
-        let mut fields: Vec<(&str, &[u8])> = vec![
+        let mut fields: Vec<Field<'_>> = vec![
             ("INVOCATION", &invocation),
             ("KIND", std::slice::from_ref(&kind)),
             ("ACCOUNT", &account),
