@@ -2,11 +2,10 @@
 //! key leads to its full form at the page's end.
 
 use crate::report::{Deed, Node, Report};
-use crate::words::{self, Part, Phrase};
+use crate::words::{self, Part};
 use crate::Keys;
 use mbelaguy::rows::{Mark, MintRow};
 use mbelaguy::{base58, ids, Key, Refusal};
-use std::fmt::Write;
 
 const STYLE: &str = include_str!("page.css");
 
@@ -81,19 +80,19 @@ impl Page {
         let deep = (node.depth > INDENTED).then(|| format!("depth {}", node.depth));
         let notes = words::notes(&node.invocation).into_iter().map(String::from);
         for note in deep.into_iter().chain(notes) {
-            put(&mut html, format_args!(" <span class=\"note\">{note}</span>"));
+            html += &format!(" <span class=\"note\">{note}</span>");
         }
-        html.push_str("</p></div>");
+        html += "</p></div>";
         for deed in &node.deeds {
             let kind = match deed {
                 Deed::Leg(_) => "leg",
                 Deed::Transfer(_) => "transfer",
                 Deed::Native(_) => "native",
             };
-            let lines: Vec<Phrase> = words::deed(deed);
+            let phrases = words::deed(deed);
             let lines: String =
-                lines.iter().map(|line| format!("<p>{}</p>", self.phrase(line))).collect();
-            put(&mut html, format_args!("<div class=\"deed {kind}\">{lines}</div>"));
+                phrases.iter().map(|phrase| format!("<p>{}</p>", self.phrase(phrase))).collect();
+            html += &format!("<div class=\"deed {kind}\">{lines}</div>");
         }
         html + "</li>\n"
     }
@@ -147,19 +146,11 @@ impl Page {
         let mut html = String::from("<section class=\"keys\">\n<h2>Keys in full</h2>\n<dl>\n");
         for key in &self.met {
             let (name, full) = (words::key(key, Keys::Short), base58::encode(key));
-            put(
-                &mut html,
-                format_args!(
-                    "<div id=\"{full}\"><dt>{name}</dt><dd><code>{full}</code></dd></div>\n"
-                ),
-            );
+            html +=
+                &format!("<div id=\"{full}\"><dt>{name}</dt><dd><code>{full}</code></dd></div>\n");
         }
         html + "</dl>\n</section>\n"
     }
-}
-
-fn put(html: &mut String, more: std::fmt::Arguments<'_>) {
-    html.write_fmt(more).expect("a string takes everything");
 }
 
 fn escaped(text: &str) -> String {
