@@ -1,0 +1,4 @@
+// `routes` on the sample of examples/.
+fn main() {
+    listing::run();
+}

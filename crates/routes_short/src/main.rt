@@ -1,0 +1,4 @@
+// `routes` on an input that ends before the last name.
+fn main() {
+    listing::run();
+}
