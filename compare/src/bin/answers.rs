@@ -1,26 +1,37 @@
-//! Writes the calls of some seeds with the oracle's answers to standard output, in the form that
-//! `stored` describes: `answers FROM TO`, TO not included.
+//! Stores calls with the oracle's answers, in the form that `stored` describes. `answers FROM TO`
+//! writes those of some seeds, TO not included, to standard output; `answers chosen FOLDER` writes the
+//! ones that crates/replay has, and what `replay` prints then, into a folder.
 
 use compare::generate::case;
 use compare::oracle::fit;
-use compare::stored;
-use std::env;
+use compare::{chosen, stored};
 use std::io::{self, BufWriter, Write};
+use std::path::Path;
 use std::process::ExitCode;
+use std::{env, fs};
 
 fn main() -> ExitCode {
-    let seeds: Option<Vec<u64>> = env::args().skip(1).map(|seed| seed.parse().ok()).collect();
-    let Some(&[from, to]) = seeds.as_deref() else {
-        eprintln!("usage: answers FROM TO");
-        return ExitCode::FAILURE;
+    let words: Vec<String> = env::args().skip(1).collect();
+    let written = match &words[..] {
+        [word, folder] if word == "chosen" => write_chosen(Path::new(folder)),
+        [from, to] => match (from.parse(), to.parse()) {
+            (Ok(from), Ok(to)) => write_answers(from, to),
+            _ => return usage(),
+        },
+        _ => return usage(),
     };
-    match write_answers(from, to) {
+    match written {
         Ok(()) => ExitCode::SUCCESS,
         Err(error) => {
             eprintln!("answers: {error}");
             ExitCode::FAILURE
         }
     }
+}
+
+fn usage() -> ExitCode {
+    eprintln!("usage: answers FROM TO, or answers chosen FOLDER");
+    ExitCode::FAILURE
 }
 
 fn write_answers(from: u64, to: u64) -> io::Result<()> {
@@ -31,4 +42,8 @@ fn write_answers(from: u64, to: u64) -> io::Result<()> {
         out.write_all(&stored::write(&case, &reply))?;
     }
     out.flush()
+}
+
+fn write_chosen(folder: &Path) -> io::Result<()> {
+    chosen::files().into_iter().try_for_each(|(name, bytes)| fs::write(folder.join(name), bytes))
 }

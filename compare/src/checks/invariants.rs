@@ -161,7 +161,7 @@ fn mints(mints: &Mints, last: &BTreeMap<Key, Key>) -> Outcome {
 }
 
 /// For each account without record, the recorded mints that chains reach it from.
-fn chain_starts(mints: &Mints) -> BTreeMap<Key, BTreeSet<Key>> {
+pub fn chain_starts(mints: &Mints) -> BTreeMap<Key, BTreeSet<Key>> {
     let mut joined: BTreeMap<Key, Vec<Key>> = BTreeMap::new();
     for (a, b) in &mints.plain {
         joined.entry(*a).or_default().push(*b);

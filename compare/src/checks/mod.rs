@@ -1,10 +1,13 @@
 //! What is checked about the oracle and the packs made for it, before anything is compared with them.
 
 pub mod cases;
+pub mod chosen;
 pub mod coverage;
+pub mod damaged;
 pub mod ids;
 pub mod invariants;
 pub mod mutants;
+pub mod order;
 pub mod packs;
 pub mod refusals;
 pub mod rows;

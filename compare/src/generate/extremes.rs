@@ -103,12 +103,13 @@ fn with_noise(mut pack: Pack, names: Names, rng: &mut Rng) -> Pack {
 
 /// A pack at a limit, or one past it.
 pub fn limit(names: Names, rng: &mut Rng) -> Vec<u8> {
-    match rng.below(9) {
+    match rng.below(10) {
         0 | 1 => write(&with_keys(mixed(names, rng), MAX_KEYS + rng.below(2), rng)),
         2 | 3 => write(&with_invocations(mixed(names, rng), MAX_INVOCATIONS + rng.below(2), rng)),
         4 | 5 => with_bytes(mixed(names, rng), MAX_BYTES + rng.below(2), rng),
-        6 => write(&full_table(names, rng)),
-        7 => write(&empty_groups(mixed(names, rng), rng)),
+        6 => write(&one_kind(names, rng)),
+        7 => write(&full_table(rng)),
+        8 => write(&empty_groups(mixed(names, rng), rng)),
         _ => write(&many_rows(mixed(names, rng), rng)),
     }
 }
@@ -151,8 +152,8 @@ fn with_bytes(mut pack: Pack, length: usize, rng: &mut Rng) -> Vec<u8> {
     write(&pack)
 }
 
-/// As many invocations as can be, all of one kind, so that one table is full.
-fn full_table(names: Names, rng: &mut Rng) -> Pack {
+/// As many invocations as can be, all of one kind, so that one table is nearly full.
+fn one_kind(names: Names, rng: &mut Rng) -> Pack {
     let world = World::new(names, rng);
     let form = rng.pick(&[
         Some(Form::Plain),
@@ -177,6 +178,27 @@ fn full_table(names: Names, rng: &mut Rng) -> Pack {
         balances: world.balances(rng),
         pools: Vec::new(),
         keys: world.keys,
+    }
+}
+
+/// As many invocations as can be, each with a row in the same table: transfers, legs or actions.
+fn full_table(rng: &mut Rng) -> Pack {
+    let ids = original::ids();
+    let keys = [rng.array(), rng.array(), ids[SPL_TOKEN], ids[AMM_V4]];
+    let (program, accounts, tag, bytes) =
+        rng.pick(&[(2, vec![0, 1, 0], 3, 8), (3, vec![0; 8], 16, 16), (2, vec![0], 17, 0)]);
+    let mut make = |rng: &mut Rng| Instruction {
+        program,
+        accounts: accounts.clone(),
+        data: [vec![tag], rng.bytes(bytes)].concat(),
+    };
+    let pattern = trees::any_heights(rng);
+    Pack {
+        keys: keys.map(|key| KeyRow { whole: true, key }).to_vec(),
+        balances: vec![Balance { account: 0, mint: ids[WRAPPED_SOL] }],
+        outer: vec![make(rng)],
+        groups: vec![trees::group(0, MAX_INVOCATIONS - 1, pattern, rng, &mut make)],
+        ..Pack::default()
     }
 }
 

@@ -4,6 +4,7 @@
 mod damage;
 mod extremes;
 pub mod names;
+pub mod order;
 mod rng;
 pub mod room;
 pub mod swaps;

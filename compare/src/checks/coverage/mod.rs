@@ -4,9 +4,10 @@
 mod invocations;
 mod packs;
 
-use crate::generate::case;
 use crate::generate::swaps::{Form, FORMS};
-use crate::oracle::fit;
+use crate::generate::{case, Case};
+use crate::oracle::{fit, Examined, Reply};
+use mbelaguy::Refusal;
 use std::collections::BTreeMap;
 use std::ops::Range;
 
@@ -15,25 +16,20 @@ struct Coverage(BTreeMap<String, usize>);
 
 /// Counts the features that must occur over the packs of some seeds.
 pub fn count(seeds: Range<u64>) -> BTreeMap<String, usize> {
-    let mut coverage = Coverage(required().into_iter().map(|name| (name, 0)).collect());
+    let mut coverage = Coverage::new();
     for seed in seeds {
         let (case, examined) = case(seed);
         let reply = fit(&examined, &case.lengths);
-        coverage.note_answer(&case, &reply);
-        if let Ok(examined) = examined {
-            coverage.note_names(&case);
-            coverage.note_room(&case, &examined);
-            coverage.note_pack(&examined);
-            coverage.note_mints(&examined);
-            coverage.note_trees(&examined);
-            for invocation in &examined.facts.invocations {
-                coverage.note_token(invocation);
-                coverage.note_swap(&case, &examined, invocation);
-                coverage.note_native(&examined, invocation);
-            }
-        }
+        coverage.note_call(&case, &examined, &reply);
     }
     coverage.0
+}
+
+/// The features that must occur and that one call shows.
+pub fn shown(case: &Case, examined: &Result<Examined, Refusal>, reply: &Reply) -> Vec<String> {
+    let mut coverage = Coverage::new();
+    coverage.note_call(case, examined, reply);
+    coverage.0.into_iter().filter(|(_, count)| *count > 0).map(|(name, _)| name).collect()
 }
 
 /// Token forms: tag, least or exact data, least accounts.
@@ -86,6 +82,10 @@ const SINGLE: &[&str] = &[
     "256 keys accepted",
     "257 keys refused",
     "1,024 invocations accepted",
+    "1,024 transfers",
+    "1,024 legs",
+    "1,024 native actions",
+    "256 mints",
     "1,025 invocations refused",
     "61,440 bytes accepted",
     "61,441 bytes refused",
@@ -201,6 +201,25 @@ fn form_feature(form: &Form, what: &str) -> String {
 }
 
 impl Coverage {
+    fn new() -> Self {
+        Coverage(required().into_iter().map(|name| (name, 0)).collect())
+    }
+
+    fn note_call(&mut self, case: &Case, examined: &Result<Examined, Refusal>, reply: &Reply) {
+        self.note_answer(case, reply);
+        let Ok(examined) = examined else { return };
+        self.note_names(case);
+        self.note_room(case, examined);
+        self.note_pack(examined);
+        self.note_mints(examined);
+        self.note_trees(examined);
+        for invocation in &examined.facts.invocations {
+            self.note_token(invocation);
+            self.note_swap(case, examined, invocation);
+            self.note_native(examined, invocation);
+        }
+    }
+
     /// Counts one more, if the feature is one of those that must occur.
     fn note(&mut self, name: &str) {
         if let Some(count) = self.0.get_mut(name) {

@@ -30,6 +30,10 @@ impl Coverage {
         self.note_if("1,025 invocations refused", invocations == Ok(1_025) && answer.number == 6);
         self.note_if("1,024 invocations accepted", accepted && answer.counts[1] == 1_024);
         self.note_if("256 keys accepted", accepted && keys == Ok(256));
+        self.note_if("256 mints", answer.counts[0] == 256);
+        self.note_if("1,024 transfers", answer.counts[2] == 1_024);
+        self.note_if("1,024 legs", answer.counts[3] == 1_024);
+        self.note_if("1,024 native actions", answer.counts[4] == 1_024);
         if accepted {
             let used = |t: usize| answer.counts[t] as usize * WIDTHS[t];
             let full = (0..5).any(|t| used(t) > 0 && used(t) == case.lengths[t]);
