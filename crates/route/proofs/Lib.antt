@@ -6,6 +6,7 @@ pub mod Acting
 pub mod Legging
 pub mod Fitting
 pub mod Assembled
+pub mod Finishing
 pub mod OrderKeys
 pub mod OrderTable
 pub mod OrderMints

@@ -3,6 +3,7 @@
 // Every refusal has a number and a place, and leaves all five tables zero. Nothing is asked of the caller: whatever the bytes and the tables' lengths are,
 // the answer and the tables are those of the definition `route`.
 mod actions;
+mod fill;
 mod fit;
 mod invocations;
 mod legs;
