@@ -1,0 +1,1 @@
+// Native actions: funding, syncing and closing a wrapped SOL account.
