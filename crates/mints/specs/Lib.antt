@@ -1,0 +1,6 @@
+pub mod Cells
+pub mod Lay
+pub mod Note
+pub mod Pass
+pub mod Gather
+pub mod Order
