@@ -6,3 +6,4 @@ pub mod Passing
 pub mod Ordering
 pub mod Writing
 pub mod Sorting
+pub mod Gathering

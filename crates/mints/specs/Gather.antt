@@ -1,6 +1,7 @@
 -- The invocations' evidence into the working table, and their plain transfers as row numbers.
 -- Assumes nothing.
 use Prim.Native.Nat.{ℕ, zero, suc}
+use mathlib.Core.Path.{_≡_}
 use mathlib.Core.Bool.{Bool, true, false, cond}
 use mathlib.Core.List.{List}
 use lib.Dec.{ltb}
@@ -62,3 +63,9 @@ unfoldable pub gatherTo : List ℕ → List ℕ → List ℕ → List ℕ → Ga
 gatherTo ks p offsets row g zero = g
 gatherTo ks p offsets row g (suc i) =
     gatherAt (keyOf ks) row (tokenAt ks p (getD offsets i 0)) (instructionAt p (getD offsets i 0) .accounts) (gatherTo ks p offsets row g i)
+
+-- what is left when all instructions are read: table, rows of sources, rows of destinations, accounts recorded, plain transfers
+unfoldable pub Gathers : List ℕ → List ℕ → List ℕ → List ℕ → List ℕ → List ℕ → List ℕ → ℕ → List ℕ → List ℕ → List ℕ → ℕ → ℕ → Type 0
+Gathers ks p offsets row t f g recorded t′ f′ g′ room count =
+    gatherTo ks p offsets row (record { noted = record { table = t; room = recorded }; from = f; to = g; count = 0 }) (length offsets)
+    ≡ record { noted = record { table = t′; room = room }; from = f′; to = g′; count = count }

@@ -6,7 +6,7 @@ ghost use lib.Dec.{ltb};
 ghost use lib.ListN.{length, getD};
 ghost use Rattle.ids.specs.Keys.{keyAt, keyOf};
 ghost use Rattle.mints.specs.Cells.{Fits};
-ghost use Rattle.mints.specs.Gather.{rowOf, noteAccount, observed, isPlain, tokenAt};
+ghost use Rattle.mints.specs.Gather.{rowOf, noteAccount, observed, isPlain, tokenAt, Gathers};
 ghost use Rattle.mints.specs.Note.{recordAt, newAt, balancesTo};
 use token::Token;
 
@@ -149,4 +149,44 @@ fn token_at(keys: &[u8], pack: &[u8], at: usize) -> Token
     let id = ids::program(keys, pack::program(pack, at) as usize);
     let n = pack::accounts(pack, at).len();
     token::parse(id, n, pack::data(pack, at))
+}
+
+// How many accounts are recorded, and how many plain transfers there are.
+pub struct Gathered {
+    pub room: usize,
+    pub count: usize,
+}
+
+// Records the evidence of the instructions at the offsets, and lists the rows of their plain transfers' sources and destinations.
+pub(crate) fn gather(
+    keys: &[u8],
+    pack: &[u8],
+    at: &[u32],
+    row: &[u32],
+    table: &mut [u8],
+    from: &mut [u32],
+    to: &mut [u32],
+    recorded: usize,
+) -> Gathered
+    requires { ⌜ (length (now at) ≤ length (now from)) × (length (now at) ≤ length (now to)) × (length (now at) ≤ 1024) × (recorded ≤ 576460752303423488) ⌝ }
+    requires { ⌜ (length (now table) ≤ 65536) × Fits (now table) (now row) ⌝ }
+    ensures { λ r. ⌜ Gathers (now (keys .entry)) (now (pack .entry)) (now (at .entry)) (now (row .entry)) (now (table .entry)) (now (from .entry)) (now (to .entry)) recorded (now (table .exit)) (now (from .exit)) (now (to .exit)) (r .room) (r .count) ⌝ }
+{
+    let mut room = recorded;
+    let mut count = 0;
+    let mut i = 0;
+    while i < at.len() {
+        let o = at[i] as usize;
+        i += 1;
+        let accounts = pack::accounts(pack, o);
+        let token = token_at(keys, pack, o);
+        room = observe(token, keys, accounts, row, table, room);
+        if !is_plain(token) {
+            continue;
+        }
+        from[count] = account_row(row, accounts, 0) as u32;
+        to[count] = account_row(row, accounts, 1) as u32;
+        count += 1;
+    }
+    Gathered { room, count }
 }
