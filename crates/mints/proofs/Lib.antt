@@ -7,3 +7,14 @@ pub mod Ordering
 pub mod Writing
 pub mod Sorting
 pub mod Gathering
+pub mod Fields
+pub mod Holding
+pub mod Recorded
+pub mod Stepped
+pub mod Runs
+pub mod Marked
+pub mod Written
+pub mod Laid
+pub mod Pieces
+pub mod Observed
+pub mod Collected

@@ -44,7 +44,7 @@ module _ (o : List ℕ) where
       rw (e, f, sets-before o (i + 1) (take (k - i) (drop i o)) (i - 1) (omega arith), drop-cons o (i - 1) 0 (omega arith), g)
       (sets-front o (i + 1) i (take (k - i) (drop i o)) (getD o (i - 1) 0) (omega arith))
 
-  drop-take : (j k : ℕ) → j ≤ k → j ≤ length o → drop j (take k o) ≡ take (k - j) (drop j o)
+  pub drop-take : (j k : ℕ) → j ≤ k → j ≤ length o → drop j (take k o) ≡ take (k - j) (drop j o)
   drop-take j k h q =
       let e : k ≡ j + (k - j) = omega arith in
       ap (λ (n : ℕ). drop j (take n o)) e ∙ rw (take-add j (k - j) o) (drop-at (take j o) (take (k - j) (drop j o)) j (length-take-le j o q))

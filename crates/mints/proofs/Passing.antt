@@ -8,10 +8,10 @@ use native.Mathlib.Numerals.{add-one}
 use native.Mathlib.Omega.{arith}
 use lib.Dec.{eqb, ltb}
 use lib.ListN.{getD}
-use borrow.Author.Tests.{eq-eqb, ne-eqb}
+use borrow.Author.Tests.{eq-eqb, ne-eqb, lt-ltb, le-ltb}
 use Rattle.mints.specs.Cells.{stateAt}
 use Rattle.mints.specs.Note.{Noted}
-use Rattle.mints.specs.Pass.{stepAt, filledAt, passTo, Ran, passesFrom, differAt, doubtAt, doubtsTo}
+use Rattle.mints.specs.Pass.{handAt, stepAt, filledAt, passTo, Ran, passesFrom, differAt, doubtAt, doubtsTo}
 
 -- a transfer fills in at most one account
 pub one-filled : (t : List ℕ) (a b : ℕ) → filledAt t a b ≤ 1
@@ -24,6 +24,28 @@ one-filled t a b = go (eqb (stateAt t a) 0) (ltb 1 (stateAt t b)) (eqb (stateAt 
     go false q true true = omega arith
     go false q true false = omega arith
     go false q false s = omega arith
+
+-- the ways through a step, by the states of the two rows
+module _ (t : List ℕ) (a b : ℕ) where
+  pub step-low : stateAt t a ≡ 0 → stateAt t b ≤ 1 → (stepAt t a b ≡ t) × (filledAt t a b ≡ 0)
+  unfolding stepAt filledAt
+  step-low e f = simp (eq-eqb _ _ e, le-ltb 1 (stateAt t b) f) (refl, refl)
+
+  pub step-back : stateAt t a ≡ 0 → 1 < stateAt t b → (stepAt t a b ≡ handAt t b a) × (filledAt t a b ≡ 1)
+  unfolding stepAt filledAt
+  step-back e f = simp (eq-eqb _ _ e, lt-ltb 1 (stateAt t b) f) (refl, refl)
+
+  pub step-forth : 1 < stateAt t a → stateAt t b ≡ 0 → (stepAt t a b ≡ handAt t a b) × (filledAt t a b ≡ 1)
+  unfolding stepAt filledAt
+  step-forth e f = simp (ne-eqb (stateAt t a) 0 (λ q. omega arith), eq-eqb _ _ f, lt-ltb 1 (stateAt t a) e) (refl, refl)
+
+  pub step-doubled : stateAt t a ≡ 1 → stateAt t b ≡ 0 → (stepAt t a b ≡ t) × (filledAt t a b ≡ 0)
+  unfolding stepAt filledAt
+  step-doubled e f = simp (ne-eqb (stateAt t a) 0 (λ q. omega arith), eq-eqb _ _ f, le-ltb 1 (stateAt t a) (omega arith)) (refl, refl)
+
+  pub step-both : 0 < stateAt t a → 0 < stateAt t b → (stepAt t a b ≡ t) × (filledAt t a b ≡ 0)
+  unfolding stepAt filledAt
+  step-both e f = simp (ne-eqb (stateAt t a) 0 (λ q. omega arith), ne-eqb (stateAt t b) 0 (λ q. omega arith)) (refl, refl)
 
 module _ (f g t : List ℕ) where
   pub pass-next : (i : ℕ) {u : List ℕ} {k : ℕ} → passTo f g t i ≡ record { table = u; room = k }

@@ -87,7 +87,7 @@ module _ (t : List ℕ) where
           clash e k = let z : _≡_ {A = ℕ} 0 1 = absurd (false≢true (sym e ∙ lt-ltb _ _ k)) in omega arith
       go false e (inr k) f = f k
 
-getD-mem : (l : List ℕ) (i : ℕ) → i < length l → List·Memᴰ (getD l i 0) l
+pub getD-mem : (l : List ℕ) (i : ℕ) → i < length l → List·Memᴰ (getD l i 0) l
 getD-mem [] i h = absurd (not-suc-le-zero h)
 getD-mem (x ∷ l) zero h = List·Memᴰ·head refl
 getD-mem (x ∷ l) (suc i) h = List·Memᴰ·tail (getD-mem l i (le-of-suc-le-suc h))

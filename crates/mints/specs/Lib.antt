@@ -4,3 +4,5 @@ pub mod Note
 pub mod Pass
 pub mod Gather
 pub mod Order
+pub mod Bytes
+pub mod Inference
