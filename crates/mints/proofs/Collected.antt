@@ -91,7 +91,7 @@ module _ {n : ℕ} {α κ : ℕ → Key} (p : Apart n α) (long : (j : ℕ) → 
       }
 
 -- at most one transfer more
-count-bound : (ks p offsets row : List ℕ) (g : Gathered) (i : ℕ) → gatherTo ks p offsets row g i .count ≤ g .count + i
+pub count-bound : (ks p offsets row : List ℕ) (g : Gathered) (i : ℕ) → gatherTo ks p offsets row g i .count ≤ g .count + i
 unfolding gatherTo gatherAt
 count-bound ks p offsets row g zero = omega arith
 count-bound ks p offsets row g (suc i) = go (isPlain (tokenAt ks p (getD offsets i 0))) (count-bound ks p offsets row g i)

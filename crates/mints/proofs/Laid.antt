@@ -136,7 +136,7 @@ module _ (κ : ℕ → Key) (long : (j : ℕ) → length (κ j) ≡ 32) (size i 
       go {r} (nowhere e g) = new (λ q l. g q (omega arith) (omega arith)) r (omega arith)
 
 -- zeros are zero wherever one looks
-zero-at : (n m : ℕ) → _≡_ {A = ℕ} (getD (zeros n) m 0) 0
+pub zero-at : (n m : ℕ) → _≡_ {A = ℕ} (getD (zeros n) m 0) 0
 zero-at n m =
     by-cases
     (decLt m n)

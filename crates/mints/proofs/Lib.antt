@@ -18,3 +18,7 @@ pub mod Laid
 pub mod Pieces
 pub mod Observed
 pub mod Collected
+pub mod Prepared
+pub mod Preparing
+pub mod Right
+pub mod Working

@@ -107,7 +107,7 @@ balance-at : (s : List ℕ) (i : ℕ) → i < length s / 36 → getD (balancesIn
 unfolding balancesIn balance
 balance-at s i h = List·getD-map balance (rows 36 (length s / 36) s) i [] ∙ ap balance (rows-at (length s / 36) s i h) ∙ balance-part s i h
 
-balances-many : (s : List ℕ) → length (balancesIn s) ≡ length s / 36
+pub balances-many : (s : List ℕ) → length (balancesIn s) ≡ length s / 36
 unfolding balancesIn
 balances-many s = length-map (rows 36 (length s / 36) s) (λ r. (le 4 r 0, drop 4 r)) ∙ rows-many (length s / 36) s
 

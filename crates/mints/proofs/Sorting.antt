@@ -99,3 +99,12 @@ sort-fits t n h k i =
     (decLt i (length (sortTo t n)))
     (λ (l : i < length (sortTo t n)). omega (arith, (sorted-mem t n (getD-mem (sortTo t n) i l)) .0))
     (λ (l : ¬ (i < length (sortTo t n))). rw (List·getD-eq-default (sortTo t n) 0 {n = i} (omega arith)) (omega arith))
+
+pub sort-length : (t : List ℕ) (n : ℕ) → length (sortTo t n) ≤ n
+unfolding sortTo
+sort-length t zero = omega arith
+sort-length t (suc r) = go (ltb 1 (stateAt t r)) (sort-length t r) (put-length (sortTo t r) (spotIn t r (sortTo t r)) r (spot-bound t r (sortTo t r)))
+  where
+    go : (b : Bool) → length (sortTo t r) ≤ r → length (putIn (sortTo t r) (spotIn t r (sortTo t r)) r) ≡ suc (length (sortTo t r)) → length (cond b (putIn (sortTo t r) (spotIn t r (sortTo t r)) r) (sortTo t r)) ≤ suc r
+    go true h e = omega arith
+    go false h e = omega arith

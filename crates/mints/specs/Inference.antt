@@ -2,11 +2,13 @@
 -- Assumes nothing.
 use Prim.Native.Nat.{ℕ}
 use mathlib.Core.Option.{Option, none, some}
-use mathlib.Core.List.{List, [], _∷_, _++_}
+use mathlib.Core.List.{List, [], _∷_, _++_, map}
 use lib.ListN.{length}
 use Rattle.ids.specs.declared.Id.{Id}
-use Rattle.ids.specs.Keys.{Key}
-use Rattle.pack.specs.Invocation.{Instruction}
+use Rattle.ids.specs.Keys.{Key, keyOf}
+use Rattle.ids.specs.Which.{programAt}
+use Rattle.pack.specs.Invocation.{Instruction, instructionAt}
+use Rattle.pack.specs.View.{balancesIn}
 use Rattle.token.specs.Records.{records, plain}
 use Rattle.evidence.specs.Table.{Row}
 use Rattle.evidence.specs.Evidence.{Evidence}
@@ -39,6 +41,10 @@ transfersOf κ ι is = gather (moves κ ι) is
 -- the Rust's `token_mints_from_invocations`, with at most 512 passes
 unfoldable pub inferred : (ℕ → Key) → (ℕ → Id) → List (ℕ × Key) → List Instruction → Option Answer
 inferred κ ι bs is = mints 512 (evidenceOf κ ι bs is) (transfersOf κ ι is)
+
+-- the same, of a key section, a balance section, and a pack with the offsets of its instructions
+abbrev pub inferredIn : List ℕ → List ℕ → List ℕ → List ℕ → Option Answer
+inferredIn ks b p offsets = inferred (keyOf ks) (programAt ks) (balancesIn b) (map (instructionAt p) offsets)
 
 -- what is answered: the room that table 0 needs, its rows, and the passes
 unfoldable pub answerOf : Option Answer → Inferred

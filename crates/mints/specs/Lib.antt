@@ -6,3 +6,4 @@ pub mod Gather
 pub mod Order
 pub mod Bytes
 pub mod Inference
+pub mod Prepare
