@@ -20,7 +20,7 @@ use Rattle.evidence.specs.Infer.{Settled, settled-distinct}
 use Rattle.evidence.specs.Final.{final}
 use Rattle.evidence.specs.Marks.{differ, opposes, opposed, markOf}
 use Rattle.evidence.specs.Lookups.{known, known-mint, known-zero, final-lookup, zero-lacks}
-use Rattle.evidence.specs.Loops.{opposed-append, opposes-none, opposes-source, opposes-target, opposes-other}
+use Rattle.evidence.specs.Marking.{opposed-append, opposes-none, opposes-source, opposes-target, opposes-other}
 use Rattle.mints.specs.Cells.{accountAt, mintAt, stateAt, held, withState}
 use Rattle.mints.specs.Pass.{differAt, doubtAt, doubtsTo}
 use Rattle.mints.proofs.Fields.{account-state, mint-state, state-here, state-other, length-state}

@@ -21,7 +21,7 @@ use Rattle.evidence.specs.Infer.{Settled, settled-distinct}
 use Rattle.evidence.specs.Final.{final}
 use Rattle.evidence.specs.Marks.{opposed, markOf}
 use Rattle.evidence.specs.MintTable.{MintRow, mintTable, mintIn, table-mint}
-use Rattle.evidence.specs.Loops.{mark-zero, mark-filled}
+use Rattle.evidence.specs.Marking.{mark-zero, mark-filled}
 use Rattle.evidence.specs.Ascending.{Ascending, asc-nil, ascending-put, ascending-map}
 use Rattle.evidence.specs.Written as theory
 use Rattle.mints.specs.Cells.{accountAt, mintAt, stateAt, held}
