@@ -5,3 +5,4 @@ pub mod Items
 pub mod View
 pub mod Flatten
 pub mod Verdict
+pub mod Layout

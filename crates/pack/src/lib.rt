@@ -8,6 +8,7 @@ ghost use lib.ListN.{length};
 ghost use Rattle.pack.specs.Items.{itemEnd};
 ghost use Rattle.pack.specs.Verdict.{verdict, numberOf, placeOf};
 
+pub mod flat;
 pub mod item;
 pub mod trailer;
 pub mod whole;
