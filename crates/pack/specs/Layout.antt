@@ -82,3 +82,13 @@ firstFrom s i k (g ∷ gs) = let rest = firstFrom s i (suc k) gs in cond (eqb (l
 -- the place of the next group that names the same outer as group k, in the same form
 abbrev pub nextOf : List ℕ → List ℕ → ℕ → ℕ
 nextOf s gs k = firstFrom s (le 4 s (getD gs k 0)) (k + 1) (drop (k + 1) gs)
+
+-- arrays that lead from group to group of outer i: the groups gs that are remembered, each with the next of its outer
+pub record Chained (s : List ℕ) (i : ℕ) (place next first : List ℕ) : Type 0 where
+  pub gs : List ℕ
+  pub few : length gs ≤ 1024
+  pub places : (k : ℕ) → k < length gs → getD place k 0 ≡ getD gs k 0
+  pub links : (k : ℕ) → k < length gs → getD next k 0 ≡ nextOf s gs k
+  pub head : getD first i 0 ≡ firstFrom s i 0 gs
+  pub good : (k : ℕ) → k < length gs → groupEnd s (getD gs k 0) ≤ length s
+  pub complete : (base : ℕ) → inside i (map (placedAt base s) gs) ≡ inside i (map (placedAt base s) (groupsAt s))

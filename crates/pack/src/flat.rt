@@ -12,7 +12,7 @@ ghost use Rattle.wire.specs.Le.{le};
 ghost use Rattle.wire.specs.Zeros.{zeros};
 ghost use Rattle.pack.specs.Items.{outersAt, outersWhole, heightAt, innersEnd, innersFrom, countAt, groupEnd, groupsAt, groupsWhole};
 ghost use Rattle.pack.specs.Flatten.{numbered, inside};
-ghost use Rattle.pack.specs.Layout.{keeps as keepsOf, keptAt, firstFrom, nextOf, raised, Wrote};
+ghost use Rattle.pack.specs.Layout.{placedAt, keeps as keepsOf, keptAt, firstFrom, nextOf, raised, Chained, Wrote};
 
 // Where the instructions of section 2 start.
 fn outer_places(s: &[u8], place: &mut [u32; 1024]) -> usize
@@ -129,4 +129,41 @@ fn members(
         j += 1;
     }
     n + count
+}
+
+// The groups of outer i, from place n on.
+fn own_groups(
+    s: &[u8],
+    base: usize,
+    place: &[u32; 1024],
+    next: &[u32; 1024],
+    first: &[u32; 1024],
+    i: u32,
+    n: usize,
+    at: &mut [u32; 1024],
+    outer: &mut [u32; 1024],
+    inner: &mut [u32; 1024],
+    height: &mut [u64; 1024],
+) -> usize
+    requires { ⌜ Chained (now s) i (now place) (now next) (now first) ⌝ }
+    requires { ⌜ (i < 1024) × (n + length (inside i (map (placedAt base (now s)) (groupsAt (now s)))) ≤ 1024) × (base + length (now s) ≤ 61440) ⌝ }
+    ensures { λ r. ⌜ Wrote (inside i (map (placedAt base (now (s .entry))) (groupsAt (now (s .entry))))) n r (now (at .entry)) (now (outer .entry)) (now (inner .entry)) (now (height .entry)) (now (at .exit)) (now (outer .exit)) (now (inner .exit)) (now (height .exit)) ⌝ }
+{
+    let mut c = first[i as usize] as usize;
+    let mut k = n;
+    while 0 < c {
+        k = members(
+            s,
+            base,
+            place[c - 1] as usize,
+            i,
+            k,
+            at,
+            outer,
+            inner,
+            height,
+        );
+        c = next[c - 1] as usize;
+    }
+    k
 }
