@@ -17,21 +17,17 @@ use Rattle.pack.specs.Items.{outersAt, countAt, groupEnd, groupAt, group
 use Rattle.pack.specs.Flatten.{inside, flattenFrom}
 use Rattle.pack.specs.Verdict.{verdict, numberOf}
 
--- the instructions of section 2, each given by its offset in the pack
-abbrev pub outerPlaces : List ℕ → List ℕ
-outerPlaces p = map (λ (at : ℕ). startOf p 2 + at) (outersAt (sectionOf p 2))
-
--- a group of section s, which starts at `base` in the pack
+-- a group of section s, its instructions given by their offsets in the pack, where the section starts at `base`
 abbrev pub placedAt : ℕ → List ℕ → ℕ → Group ℕ
 placedAt base s = groupAt (λ (at : ℕ). base + at) s
 
--- the groups of section 3, likewise
-abbrev pub groupPlaces : List ℕ → List (Group ℕ)
-groupPlaces p = map (placedAt (startOf p 3) (sectionOf p 3)) (groupsAt (sectionOf p 3))
+-- outer instructions at offsets `outs` of a section that starts at `from`, with the groups of section s
+abbrev pub spreadOf : ℕ → ℕ → List ℕ → List ℕ → List (Position × ℕ)
+spreadOf from base s outs = flattenFrom 0 (map (λ (at : ℕ). from + at) outs) (map (placedAt base s) (groupsAt s))
 
 -- the invocations in execution order, each given by its position and its instruction's offset; none of a pack that is refused
 unfoldable pub layout : List ℕ → List (Position × ℕ)
-layout p = cond (eqb (numberOf (verdict p)) 0) (flattenFrom 0 (outerPlaces p) (groupPlaces p)) []
+layout p = cond (eqb (numberOf (verdict p)) 0) (spreadOf (startOf p 2) (startOf p 3) (sectionOf p 3) (outersAt (sectionOf p 2))) []
 
 -- a number that may be absent, as the arrays hold it: one higher, 0 standing for none
 unfoldable pub raised : Option ℕ → ℕ

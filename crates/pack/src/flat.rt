@@ -12,7 +12,7 @@ ghost use Rattle.wire.specs.Le.{le};
 ghost use Rattle.wire.specs.Zeros.{zeros};
 ghost use Rattle.pack.specs.Items.{outersAt, outersWhole, heightAt, innersEnd, innersFrom, countAt, groupEnd, groupsAt, groupsWhole};
 ghost use Rattle.pack.specs.Flatten.{numbered, inside};
-ghost use Rattle.pack.specs.Layout.{placedAt, keeps as keepsOf, keptAt, firstFrom, nextOf, raised, Chained, Wrote};
+ghost use Rattle.pack.specs.Layout.{placedAt, keeps as keepsOf, keptAt, firstFrom, nextOf, raised, Chained, Wrote, spreadOf};
 
 // Where the instructions of section 2 start.
 fn outer_places(s: &[u8], place: &mut [u32; 1024]) -> usize
@@ -166,4 +166,49 @@ fn own_groups(
         c = next[c - 1] as usize;
     }
     k
+}
+
+// Each outer instruction with its groups: `outs` says where the o outer instructions stand in their section, which starts at `from`.
+fn spread(
+    s: &[u8],
+    base: usize,
+    from: usize,
+    outs: &[u32; 1024],
+    o: usize,
+    place: &[u32; 1024],
+    next: &[u32; 1024],
+    first: &[u32; 1024],
+    at: &mut [u32; 1024],
+    outer: &mut [u32; 1024],
+    inner: &mut [u32; 1024],
+    height: &mut [u64; 1024],
+) -> usize
+    requires { ⌜ ((i : ℕ) → i < o → Chained (now s) i (now place) (now next) (now first)) ⌝ }
+    requires { ⌜ (o ≤ 1024) × (length (now outs) ≡ 1024) × (from ≤ 61440) × ((k : ℕ) → k < o → getD (now outs) k 0 ≤ 61440) ⌝ }
+    requires { ⌜ (length (spreadOf from base (now s) (take o (now outs))) ≤ 1024) × (base + length (now s) ≤ 61440) ⌝ }
+    ensures { λ r. ⌜ Wrote (spreadOf from base (now (s .entry)) (take o (now (outs .entry)))) 0 r (now (at .entry)) (now (outer .entry)) (now (inner .entry)) (now (height .entry)) (now (at .exit)) (now (outer .exit)) (now (inner .exit)) (now (height .exit)) ⌝ }
+{
+    let mut n = 0;
+    let mut i = 0;
+    while i < o {
+        at[n] = (from + outs[i] as usize) as u32;
+        outer[n] = i as u32;
+        inner[n] = 0;
+        height[n] = 2;
+        n = own_groups(
+            s,
+            base,
+            place,
+            next,
+            first,
+            i as u32,
+            n + 1,
+            at,
+            outer,
+            inner,
+            height,
+        );
+        i += 1;
+    }
+    n
 }
