@@ -102,8 +102,12 @@ module _ {A : Type 0} where
       let split = sum-split (λ k. leb i k && ltb k (i + suc (length xs))) (λ k. eqb k i) (λ k. leb (suc i) k && ltb k (suc i + length xs)) (one-step i (length xs)) gs in
       omega arith
 
+  -- from the first on
+  pub all-length : (xs : List A) (gs : List (Group A)) → length (flattenFrom 0 xs gs) ≡ length xs + keptIn (length xs) gs
+  all-length xs gs =
+      rw (from-length 0 xs gs, ← sum-kept (length xs) gs)
+      (ap (λ (n : ℕ). length xs + n) (sum-same (λ k. leb 0 k && ltb k (0 + length xs)) (λ k. ltb k (length xs)) (λ k. rw (leb·zero k, zero-add)) gs))
+
 pub flatten-length : (v : View) → length (flatten v) ≡ length (v .outer) + keptIn (length (v .outer)) (v .groups)
 unfolding flatten
-flatten-length v =
-    rw (length-map (flattenFrom 0 (v .outer) (v .groups)) invocation, from-length 0 (v .outer) (v .groups), ← sum-kept (length (v .outer)) (v .groups))
-    (ap (λ (n : ℕ). length (v .outer) + n) (sum-same (λ k. leb 0 k && ltb k (0 + length (v .outer))) (λ k. ltb k (length (v .outer))) (λ k. rw (leb·zero k, zero-add)) (v .groups)))
+flatten-length v = length-map (flattenFrom 0 (v .outer) (v .groups)) invocation ∙ all-length (v .outer) (v .groups)

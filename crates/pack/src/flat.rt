@@ -12,7 +12,8 @@ ghost use Rattle.wire.specs.Le.{le};
 ghost use Rattle.wire.specs.Zeros.{zeros};
 ghost use Rattle.pack.specs.Items.{outersAt, outersWhole, heightAt, innersEnd, innersFrom, countAt, groupEnd, groupsAt, groupsWhole};
 ghost use Rattle.pack.specs.Flatten.{numbered, inside};
-ghost use Rattle.pack.specs.Layout.{placedAt, keeps as keepsOf, keptAt, firstFrom, nextOf, raised, Chained, Wrote, spreadOf};
+ghost use Rattle.pack.specs.Verdict.{verdict, numberOf};
+ghost use Rattle.pack.specs.Layout.{placedAt, keeps as keepsOf, keptAt, firstFrom, nextOf, raised, Chained, Wrote, spreadOf, layout, Flattened};
 
 // Where the instructions of section 2 start.
 fn outer_places(s: &[u8], place: &mut [u32; 1024]) -> usize
@@ -211,4 +212,61 @@ fn spread(
         i += 1;
     }
     n
+}
+
+// The invocations of a pack that no refusal meets.
+fn fill(
+    pack: &[u8],
+    at: &mut [u32; 1024],
+    outer: &mut [u32; 1024],
+    inner: &mut [u32; 1024],
+    height: &mut [u64; 1024],
+) -> usize
+    requires { ⌜ numberOf (verdict (now pack)) ≡ 0 ⌝ }
+    ensures { λ r. ⌜ Wrote (layout (now (pack .entry))) 0 r (now (at .entry)) (now (outer .entry)) (now (inner .entry)) (now (height .entry)) (now (at .exit)) (now (outer .exit)) (now (inner .exit)) (now (height .exit)) ⌝ }
+{
+    let mut outs = [0u32; 1024];
+    let o = outer_places(super::section(pack, 2), &mut outs);
+    let s = super::section(pack, 3);
+    let mut place = [0u32; 1024];
+    let n = kept_places(s, o, &mut place);
+    let mut next = [0u32; 1024];
+    let mut first = [0u32; 1024];
+    link(s, &place, n, &mut next, &mut first);
+    let base = super::trailer::start(pack, 3);
+    let from = super::trailer::start(pack, 2);
+    spread(
+        s,
+        base,
+        from,
+        &outs,
+        o,
+        &place,
+        &next,
+        &first,
+        at,
+        outer,
+        inner,
+        height,
+    )
+}
+
+// The invocations of a pack in execution order, the arrays zero behind them; none of a pack that is refused. Answers how many.
+pub fn flatten(
+    pack: &[u8],
+    at: &mut [u32; 1024],
+    outer: &mut [u32; 1024],
+    inner: &mut [u32; 1024],
+    height: &mut [u64; 1024],
+) -> usize
+    ensures { λ r. ⌜ Flattened (now (pack .entry)) r (now (at .exit)) (now (outer .exit)) (now (inner .exit)) (now (height .exit)) ⌝ }
+{
+    *at = [0u32; 1024];
+    *outer = [0u32; 1024];
+    *inner = [0u32; 1024];
+    *height = [0u64; 1024];
+    if super::number(super::judge(pack)) != 0 {
+        return 0;
+    }
+    fill(pack, at, outer, inner, height)
 }

@@ -13,6 +13,7 @@ pub mod item;
 pub mod trailer;
 pub mod whole;
 
+pub use flat::flatten;
 pub use item::accounts;
 pub use item::data;
 pub use item::program;
