@@ -22,6 +22,7 @@ use Rattle.pack.specs.View.{outerIn, groupsIn, viewOf}
 use Rattle.pack.specs.Flatten.{numbered, inside, outermost, flattenFrom, invocation, flatten}
 use Rattle.pack.specs.Verdict.{numberOf, verdict}
 use Rattle.pack.specs.Layout.{layout, spreadOf, placedAt, raised, atOf, outerOf, innerOf, heightOf, Wrote, Flattened}
+use Rattle.pack.proofs.Parts.{at-map}
 use Rattle.pack.proofs.Slices.{slice, instruction-in}
 use Rattle.pack.proofs.Good.{passed, section-is}
 use Rattle.pack.proofs.Kept.{Each, outers-each, groups-each, laid-at}
@@ -107,12 +108,7 @@ layout-is p e =
     rw (a, b, l, flatten-seen (instructionAt p) 0 (map (λ (x : ℕ). startOf p 2 + x) (outersAt (sectionOf p 2))) (map (placedAt (startOf p 3) (sectionOf p 3)) (groupsAt (sectionOf p 3))))
     (map-map invocation (seen (instructionAt p)) (spreadOf (startOf p 2) (startOf p 3) (sectionOf p 3) (outersAt (sectionOf p 2))))
 
--- a list's member through a function, and read back from an array
-at-map : {A B : Type 0} (f : A → B) (l : List A) (i : ℕ) (d : A) (z : B) → i < length l → getD (map f l) i z ≡ f (getD l i d)
-at-map f [] i d z h = absurd (omega arith)
-at-map f (x ∷ l) zero d z h = refl
-at-map f (x ∷ l) (suc i) d z h = at-map f l i d z (omega arith)
-
+-- a number read back from an array
 lowered-raised : (o : Option ℕ) → lowered (raised o) ≡ o
 unfolding lowered raised
 lowered-raised none = refl

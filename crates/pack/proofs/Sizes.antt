@@ -17,10 +17,13 @@ unfolding rows
 rows-length w zero s = refl
 rows-length w (suc n) s = ap suc (rows-length w n (drop w s))
 
+pub key-rows : (s : List ℕ) → length (keysIn s) ≡ length s / 33
+unfolding keysIn
+key-rows s = length-map (rows 33 (length s / 33) s) (λ (r : List ℕ). (getD r 0 0, drop 1 r)) ∙ rows-length 33 (length s / 33) s
+
 pub keys-length : (p : List ℕ) → length (viewOf p .keys) ≡ length (sectionOf p 0) / 33
-unfolding viewOf keysIn
-keys-length p =
-    length-map (rows 33 (length (sectionOf p 0) / 33) (sectionOf p 0)) (λ (r : List ℕ). (getD r 0 0, drop 1 r)) ∙ rows-length 33 (length (sectionOf p 0) / 33) (sectionOf p 0)
+unfolding viewOf
+keys-length p = key-rows (sectionOf p 0)
 
 pub invocations-length : (p : List ℕ) → length (flatten (viewOf p)) ≡ length (outerIn (sectionOf p 2)) + keptIn (length (outerIn (sectionOf p 2))) (groupsIn (sectionOf p 3))
 unfolding viewOf

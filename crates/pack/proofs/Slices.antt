@@ -18,7 +18,7 @@ module _ (p : List ℕ) (from n : ℕ) where
   within : (length slice ≤ n) × (length slice ≤ length p - from)
   within = simp (length-take, length-drop) (omega arith, omega arith)
 
-  le-in : (k at : ℕ) → at + k ≤ length slice → le k slice at ≡ le k p (from + at)
+  pub le-in : (k at : ℕ) → at + k ≤ length slice → le k slice at ≡ le k p (from + at)
   unfolding le
   le-in zero at h = refl
   le-in (suc k) at h =

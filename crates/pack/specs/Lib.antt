@@ -4,5 +4,6 @@ pub mod Group
 pub mod Items
 pub mod View
 pub mod Flatten
+pub mod Sorted
 pub mod Verdict
 pub mod Layout

@@ -1,10 +1,15 @@
 -- What a pack says.
 -- Assumes nothing.
 use Prim.Native.Nat.{ℕ, _/_}
+use mathlib.Core.Bool.{cond}
 use mathlib.Core.List.{List, map}
+use lib.Dec.{eqb}
 use lib.ListN.{length, getD, drop}
 use Rattle.wire.specs.Le.{le}
-use Rattle.ids.specs.Keys.{Key}
+use Rattle.ids.specs.Keys.{Key, zeroKey}
+use Rattle.ids.specs.Which.{which}
+use Rattle.ids.specs.declared.Id.{Id}
+use Rattle.ids.specs.declared.Id.the-variants.{Unresolved}
 use Rattle.pack.specs.Invocation.{Instruction, instructionAt}
 use Rattle.pack.specs.Group.{Group}
 use Rattle.pack.specs.Sections.{sectionOf}
@@ -48,3 +53,11 @@ viewOf p =
       groups = groupsIn (sectionOf p 3);
       pools = poolsIn (sectionOf p 4);
     }
+
+-- the key of an index, zero past the keys
+unfoldable pub keyIn : List (ℕ × Key) → ℕ → Key
+keyIn ks i = getD (map (λ (k : ℕ × Key). k .1) ks) i zeroKey
+
+-- which program an index names: resolved only in range with flag 1
+unfoldable pub programIn : List (ℕ × Key) → ℕ → Id
+programIn ks i = cond (eqb (getD (map (λ (k : ℕ × Key). k .0) ks) i 0) 1) (which (keyIn ks i)) Unresolved
