@@ -5,4 +5,5 @@ pub mod checks;
 pub mod generate;
 pub mod listing;
 pub mod oracle;
+pub mod sample;
 pub mod stored;

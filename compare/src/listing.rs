@@ -1,6 +1,7 @@
 //! The listing that the program `routes` prints.
 
-use crate::oracle::{reply, Reply, WIDTHS};
+use crate::oracle::{reply, Reply};
+use mbelaguy::WIDTHS;
 use std::fmt::Write;
 
 /// Rows that `routes` lends in tables 0 to 4.

@@ -11,7 +11,8 @@
 //! All bytes of a table behind its used rows are 0 and are not stored.
 
 use crate::generate::Case;
-use crate::oracle::{Answer, Reply, WIDTHS};
+use crate::oracle::Reply;
+use mbelaguy::{Answer, WIDTHS};
 
 /// One record.
 pub fn write(case: &Case, reply: &Reply) -> Vec<u8> {
@@ -21,7 +22,7 @@ pub fn write(case: &Case, reply: &Reply) -> Vec<u8> {
     rest.extend(lengths.flat_map(|length| (length as u32).to_le_bytes()));
     rest.extend(&case.names);
     rest.extend(&case.pack);
-    let numbers = [number.into(), place.into()].into_iter().chain(counts).chain([passes, tests]);
+    let numbers = [number, place].into_iter().chain(counts).chain([passes, tests]);
     rest.extend(numbers.flat_map(u32::to_le_bytes));
     for (t, table) in reply.tables.iter().enumerate() {
         rest.extend(&table[..counts[t] as usize * WIDTHS[t]]);
@@ -47,13 +48,7 @@ pub fn read(bytes: &[u8]) -> Option<(Case, Reply, &[u8])> {
         tables[t].get_mut(..rows.len())?.copy_from_slice(rows);
         rest = more;
     }
-    let answer = Answer {
-        number: number.try_into().ok()?,
-        place: place.try_into().ok()?,
-        counts,
-        passes,
-        tests,
-    };
+    let answer = Answer { number, place, counts, passes, tests };
     let case = Case { names: names.to_vec(), pack: pack.to_vec(), lengths };
     rest.is_empty().then_some((case, Reply { answer, tables }, following))
 }

@@ -1,6 +1,6 @@
 //! The oracle and its generated packs, checked by themselves.
 
-use compare::checks::{cases::CASES, coverage, ids, mutants, packs, refusals::REFUSALS};
+use compare::checks::{cases::CASES, coverage, ids, mutants, packs, refusals::REFUSALS, sample};
 
 #[test]
 fn cases_of_document_01() {
@@ -19,10 +19,16 @@ fn refusals_of_document_01() {
 #[test]
 fn ids_agree() {
     assert_eq!(ids::distinct(), Ok(()));
+    assert_eq!(ids::bindings(), Ok(()));
     match ids::agree() {
         Some(outcome) => assert_eq!(outcome, Ok(())),
         None => println!("no python3: the second decoder was not run"),
     }
+}
+
+#[test]
+fn sample_is_committed() {
+    assert_eq!(sample::committed(), Ok(()));
 }
 
 #[test]

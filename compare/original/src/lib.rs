@@ -5,7 +5,6 @@ extern crate self as solana_sdk;
 extern crate self as solana_transaction_status;
 extern crate self as yellowstone_grpc_proto;
 
-pub mod base58;
 pub mod facts;
 pub mod ids;
 pub mod names;

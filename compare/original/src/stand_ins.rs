@@ -10,7 +10,7 @@ macro_rules! pubkey {
 
 /// `solana_sdk::pubkey`.
 pub mod pubkey {
-    use crate::base58;
+    use mbelaguy::base58;
     use std::fmt;
     use std::str::FromStr;
 

@@ -1,7 +1,9 @@
 //! The quick part of the comparison: cases, ids, 20,000 generated packs, coverage, mutants. The last
 //! line says how many checks passed and failed; the exit code is 0 only if none failed.
 
-use compare::checks::{cases::CASES, coverage, ids, mutants, packs, refusals::REFUSALS, Outcome};
+use compare::checks::{
+    cases::CASES, coverage, ids, mutants, packs, refusals::REFUSALS, sample, Outcome,
+};
 use std::process::ExitCode;
 
 const SEEDS: u64 = 20_000;
@@ -13,10 +15,12 @@ fn main() -> ExitCode {
         tally.add(name, example());
     }
     tally.add("the ids are distinct", ids::distinct());
+    tally.add("the bindings' ids and names are the original's", ids::bindings());
     match ids::agree() {
         Some(outcome) => tally.add("both decoders of the ids agree", outcome),
         None => println!("python3 is not installed: the second decoder of the ids was not run"),
     }
+    tally.add("the sample in examples/", sample::committed());
     for first in (0..SEEDS).step_by(SEEDS_PER_CHECK as usize) {
         tally.add("generated packs", packs::hold(first..first + SEEDS_PER_CHECK));
     }

@@ -2,11 +2,12 @@
 
 use super::{hold, same, Example, Outcome};
 use crate::listing::{listing, ROOM};
-use crate::oracle::{self, Answer, Reply, WIDTHS};
+use crate::oracle::{self, Reply};
+use mbelaguy::pack::{Balance, Group, Inner, Instruction, Key, KeyRow, Pack};
+use mbelaguy::{Answer, Refusal, Table, WIDTHS};
 use original::ids;
 use original::instr::meteora_dlmm::discriminators::SWAP2;
 use original::instr::pump_amm::discriminators::SELL;
-use pack::{Balance, Group, Inner, Instruction, Key, KeyRow, Pack};
 
 pub const CASES: &[Example] = &[
     ("a: AMM V4 tag 9 with 17 accounts", a),
@@ -191,7 +192,7 @@ fn ambiguous_room() -> Outcome {
     let balances = [key(50), key(51)].map(|mint| Balance { account: 0, mint }).to_vec();
     let bytes = Pack { balances, ..pack(vec![]) }.write().map_err(|error| format!("{error:?}"))?;
     let names = original::names::real();
-    let refused = Answer { number: 8, ..Answer::default() };
+    let refused = Answer::refused(Refusal::Room(Table::Mints));
     same("64 bytes", oracle::reply(&names, &bytes, &[64, 0, 0, 0, 0]).answer, refused)?;
     let accepted = oracle::reply(&names, &bytes, &[65, 0, 0, 0, 0]);
     same("65 bytes", accepted.answer, Answer { passes: 1, ..Answer::default() })?;

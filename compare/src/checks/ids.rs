@@ -1,7 +1,7 @@
 //! The fourteen ids, decoded by two programs in two languages.
 
 use super::{hold, same, Outcome};
-use original::base58;
+use mbelaguy::base58;
 use std::io::ErrorKind;
 use std::process::Command;
 
@@ -23,6 +23,12 @@ pub fn agree() -> Option<Outcome> {
             Some(same("ids.py complains", errors, String::new()).and(same("ids", printed, lines())))
         }
     }
+}
+
+/// The ids and names that the bindings give are the original's.
+pub fn bindings() -> Outcome {
+    same("ids", mbelaguy::ids::NAMED.map(|(id, _)| id), original::ids())?;
+    same("names", mbelaguy::Names::ORIGINAL.bytes(), original::names::real())
 }
 
 /// No two ids are equal, none is zero, and each is what its text decodes to.

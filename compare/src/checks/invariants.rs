@@ -3,7 +3,9 @@
 use super::{hold, same, Outcome};
 use crate::generate::Case;
 use crate::oracle::mints::Mints;
-use crate::oracle::{blocks, kept, Examined, Refusal, Reply, MAX_INVOCATIONS, MAX_KEYS, WIDTHS};
+use crate::oracle::{blocks, Examined, Reply};
+use mbelaguy::pack::Step;
+use mbelaguy::{Refusal, MAX_INVOCATIONS, MAX_KEYS, WIDTHS};
 use original::facts::{Invocation, Key};
 use original::ids::WRAPPED_SOL;
 use std::collections::{BTreeMap, BTreeSet};
@@ -82,13 +84,21 @@ fn wrapped_sol(reply: &Reply) -> Outcome {
 pub fn examined(examined: &Examined) -> Outcome {
     let invocations = &examined.facts.invocations;
     let n = invocations.len();
-    same("kept invocations", n, kept(&examined.pack))?;
+    let steps = examined.pack.steps();
+    same("kept invocations", n, steps.len())?;
+    hold("steps", steps.iter().zip(invocations).all(|(step, one)| is_step(step, one)))?;
     hold("limits", n <= MAX_INVOCATIONS && examined.pack.keys.len() <= MAX_KEYS)?;
     let ends: Vec<_> = (0..n).map(|i| end(invocations, i)).collect();
     same("ends", invocations.iter().map(|one| one.end).collect(), ends.clone())?;
     same("tests by the loop", counted_tests(invocations), blocks::tests(&ends))?;
     hold("tests at most 2n - 2", examined.tests <= (2 * n).saturating_sub(2))?;
     mints(&examined.mints, &examined.facts.mints)
+}
+
+/// The pack's own order of instructions against the original's.
+fn is_step(step: &Step<'_>, one: &Invocation) -> bool {
+    let position = (step.outer, step.inner, step.height) == (one.outer, one.inner, one.height);
+    position && step.instruction.accounts == one.accounts && step.instruction.data == one.data
 }
 
 /// The first later invocation that is no descendant, or n.

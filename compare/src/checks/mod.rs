@@ -7,6 +7,8 @@ pub mod invariants;
 pub mod mutants;
 pub mod packs;
 pub mod refusals;
+pub mod rows;
+pub mod sample;
 
 use std::fmt::Debug;
 

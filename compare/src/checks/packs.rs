@@ -1,6 +1,6 @@
 //! Generated packs: the oracle answers each of them, and every answer keeps to its invariants.
 
-use super::{invariants, same, Outcome};
+use super::{invariants, rows, same, Outcome};
 use crate::generate::case;
 use crate::oracle::{examine_mutant, fit};
 use crate::stored;
@@ -20,6 +20,9 @@ fn one(seed: u64) -> Outcome {
     if let Ok(examined) = &examined {
         same("written again", examined.pack.write(), Ok(case.pack.clone()))?;
         invariants::examined(examined)?;
+        if reply.answer.number == 0 {
+            rows::agree(examined, &reply)?;
+        }
     }
     invariants::reply(&case, &examined, &reply)?;
     let unbroken = examine_mutant(None, &case.names, &case.pack);

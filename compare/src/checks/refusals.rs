@@ -2,7 +2,7 @@
 
 use super::{same, Example, Outcome};
 use crate::oracle::reply;
-use pack::{join, Group, Inner, Instruction, KeyRow, Pack, MAX_BYTES, TRAILER};
+use mbelaguy::pack::{join, Group, Inner, Instruction, KeyRow, Pack, MAX_BYTES, TRAILER};
 
 pub const REFUSALS: &[Example] = &[
     ("1: names of another length, before anything else", names),
@@ -17,11 +17,11 @@ pub const REFUSALS: &[Example] = &[
 ];
 
 /// Number and place of the answer for a pack and tables of no length.
-fn refused(bytes: &[u8], number: u8, place: u8) -> Outcome {
+fn refused(bytes: &[u8], number: u32, place: u32) -> Outcome {
     with_room(bytes, [0; 5], number, place)
 }
 
-fn with_room(bytes: &[u8], lengths: [usize; 5], number: u8, place: u8) -> Outcome {
+fn with_room(bytes: &[u8], lengths: [usize; 5], number: u32, place: u32) -> Outcome {
     let answer = reply(&[0; 88], bytes, &lengths).answer;
     same("answer", (answer.number, answer.place), (number, place))
 }
@@ -77,7 +77,7 @@ fn sections() -> Outcome {
     for lowest in 0..5 {
         let mut sections: [Vec<u8>; 5] = Default::default();
         sections[lowest..].fill(vec![0; 5]);
-        refused(&join(&sections), 4, lowest as u8)?;
+        refused(&join(&sections), 4, lowest as u32)?;
     }
     Ok(())
 }
@@ -140,9 +140,9 @@ fn room() -> Outcome {
     for table in 0..5 {
         let mut lengths = exact;
         lengths[table] -= 1;
-        with_room(&bytes, lengths, 8, table as u8)?;
+        with_room(&bytes, lengths, 8, table as u32)?;
         lengths[table..].fill(0);
-        with_room(&bytes, lengths, 8, table as u8)?;
+        with_room(&bytes, lengths, 8, table as u32)?;
     }
     Ok(())
 }

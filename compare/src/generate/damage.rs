@@ -1,9 +1,9 @@
 //! Damage for every refusal: names, mark, trailer, sections, one or two at a time.
 
 use super::rng::Rng;
-use super::{mixed, write};
+use super::{mixed, sections, write};
+use mbelaguy::pack::{join, Pack, KEY_ROW, MAX_BYTES, TRAILER};
 use original::names::Names;
-use pack::{join, Pack, KEY_ROW, MAX_BYTES, TRAILER};
 
 /// Names and a pack of which at least one is damaged.
 pub fn damaged(names: Names, rng: &mut Rng) -> (Vec<u8>, Vec<u8>) {
@@ -82,7 +82,7 @@ fn bad_starts(mut bytes: Vec<u8>, rng: &mut Rng) -> Vec<u8> {
 }
 
 fn bad_section(pack: &Pack, rng: &mut Rng) -> Vec<u8> {
-    let mut sections = pack.sections().expect("generated counts stay below 65,536");
+    let mut sections = sections(pack);
     damage_section(&mut sections, rng);
     if rng.chance(25) {
         damage_section(&mut sections, rng);

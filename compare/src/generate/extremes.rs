@@ -5,10 +5,10 @@ use super::tokens::{self, Form};
 use super::trees::{self, Heights};
 use super::world::World;
 use super::{mixed, write};
-use crate::oracle::{kept, MAX_INVOCATIONS, MAX_KEYS};
+use mbelaguy::pack::{Balance, Group, Inner, Instruction, Key, KeyRow, Pack, MAX_BYTES};
+use mbelaguy::{MAX_INVOCATIONS, MAX_KEYS};
 use original::ids::{AMM_V4, SPL_TOKEN, TOKEN_2022, WRAPPED_SOL};
 use original::names::Names;
-use pack::{Balance, Group, Inner, Instruction, Key, KeyRow, Pack, MAX_BYTES};
 
 /// Plain transfers along a line of accounts, in some order and direction, with mints at its ends.
 pub fn chain(names: Names, rng: &mut Rng) -> Pack {
@@ -126,7 +126,7 @@ fn with_invocations(mut pack: Pack, count: usize, rng: &mut Rng) -> Pack {
     if pack.outer.is_empty() {
         pack.outer.push(Instruction::default());
     }
-    let missing = count - kept(&pack);
+    let missing = count - pack.steps().len();
     let inners = if rng.chance(50) { missing } else { rng.below(4) };
     // Outers at the end may not take in groups that named no outer before.
     let outers = pack.outer.len() + missing - inners;

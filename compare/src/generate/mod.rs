@@ -11,9 +11,10 @@ mod tokens;
 mod trees;
 mod world;
 
-use crate::oracle::{examine, Examined, Refusal};
+use crate::oracle::{examine, Examined};
+use mbelaguy::pack::{join, Instruction, Pack};
+use mbelaguy::Refusal;
 use original::names::Names;
-use pack::{Instruction, Pack};
 use rng::Rng;
 use room::Room;
 use world::World;
@@ -71,8 +72,13 @@ fn names_and_pack(rng: &mut Rng) -> (Vec<u8>, Vec<u8>) {
     (names.to_vec(), pack)
 }
 
+/// The bytes of a pack, also where they are more than a pack may have.
 fn write(pack: &Pack) -> Vec<u8> {
-    pack.write().expect("generated counts stay below 65,536")
+    join(&sections(pack))
+}
+
+fn sections(pack: &Pack) -> [Vec<u8>; 5] {
+    pack.sections().expect("generated counts stay below 65,536")
 }
 
 /// A pack like those of real transactions, with every kind of instruction.

@@ -6,11 +6,11 @@ use original::instr::pump_amm::discriminators as pump_amm;
 use original::names::{real, Names};
 
 /// Where the names start in the 88 bytes.
-pub const BASE_IN: usize = 0;
-pub const BASE_OUT: usize = 8;
-pub const BUY: usize = 16;
-pub const STANDARD: usize = 24;
-pub const REWARD: usize = 56;
+pub const BASE_IN: usize = mbelaguy::Names::SWAP_BASE_IN;
+pub const BASE_OUT: usize = mbelaguy::Names::SWAP_BASE_OUT;
+pub const BUY: usize = mbelaguy::Names::BUY;
+pub const STANDARD: usize = mbelaguy::Names::STANDARD;
+pub const REWARD: usize = mbelaguy::Names::REWARD;
 
 /// Ways in which names coincide.
 pub const COINCIDENCES: usize = 9;

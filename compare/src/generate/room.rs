@@ -2,7 +2,7 @@
 
 use super::rng::Rng;
 use crate::listing::ROOM;
-use crate::oracle::WIDTHS;
+use mbelaguy::WIDTHS;
 
 #[derive(Clone, Copy, Debug)]
 pub enum Room {

@@ -3,13 +3,13 @@
 use super::names::{BASE_IN, BASE_OUT, BUY, REWARD, STANDARD};
 use super::rng::Rng;
 use super::world::World;
+use mbelaguy::pack::{Instruction, Key};
 use original::ids::{AMM_V4, CLMM, CPMM, DLMM, LAUNCHLAB, ORCA, PUMPFUN, PUMPSWAP, WRAPPED_SOL};
 use original::instr::meteora_dlmm::discriminators as dlmm;
 use original::instr::pump::discriminators as pump;
 use original::instr::pump_amm::discriminators as pump_amm;
 use original::instr::raydium_launchlab::discriminators as launchlab;
 use original::names::Names;
-use pack::{Instruction, Key};
 use std::sync::LazyLock;
 
 /// CLMM and Orca share these; the original keeps them inside `swap`.

@@ -2,8 +2,8 @@
 
 use super::rng::Rng;
 use super::world::World;
+use mbelaguy::pack::Instruction;
 use original::ids::{SPL_TOKEN, TOKEN_2022};
-use pack::Instruction;
 
 /// Forms of token and System instructions.
 #[derive(Clone, Copy)]

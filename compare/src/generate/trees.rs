@@ -2,7 +2,7 @@
 //! dropped and empty ones.
 
 use super::rng::Rng;
-use pack::{Group, Inner, Instruction};
+use mbelaguy::pack::{Group, Inner, Instruction};
 
 /// How heights run inside a group.
 #[derive(Clone, Copy)]

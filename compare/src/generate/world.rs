@@ -3,9 +3,9 @@
 
 use super::names::{REWARD, STANDARD};
 use super::rng::Rng;
+use mbelaguy::pack::{Balance, Key, KeyRow};
 use original::ids::WRAPPED_SOL;
 use original::names::Names;
-use pack::{Balance, Key, KeyRow};
 
 pub struct World {
     pub names: Names,

@@ -1,12 +1,12 @@
 //! A pack put into the types that the original reads.
 
+use mbelaguy::pack::{Balance, Group, Instruction, KeyRow, Pack};
 use original::prelude::{
     CompiledInstruction, InnerInstruction, InnerInstructions, Message, TokenBalance, Transaction,
     TransactionStatusMeta,
 };
 use original::pubkey::Pubkey;
 use original::Facts;
-use pack::{Balance, Group, Instruction, KeyRow, Pack};
 
 /// A copy of the original: what it says about a transaction.
 pub type FactsOf<'a> = dyn Fn(&Transaction, &TransactionStatusMeta, &[Pubkey]) -> Facts + 'a;

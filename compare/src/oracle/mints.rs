@@ -1,8 +1,8 @@
 //! What was recorded about mints, how many passes it takes, how much room, which mark. The final
 //! mints are the original's.
 
+use mbelaguy::pack::Pack;
 use original::facts::{Facts, Invocation, Key};
-use pack::Pack;
 use std::collections::BTreeMap;
 
 const ZERO: Key = [0; 32];

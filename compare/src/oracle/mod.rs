@@ -9,44 +9,17 @@ mod feed;
 pub mod mints;
 mod rows;
 
+use mbelaguy::pack::{self, Pack};
+use mbelaguy::{Answer, Refusal, Table, MAX_INVOCATIONS, MAX_KEYS, MAX_PASSES, WIDTHS};
 use mints::Mints;
 use original::names::Names;
 use original::Facts;
-use pack::{Fault, Pack};
-
-/// Bytes of a row in tables 0 to 4: mints, invocations, transfers, legs, natives.
-pub const WIDTHS: [usize; 5] = [65, 23, 150, 250, 109];
-
-/// The most keys of a pack that is not refused.
-pub const MAX_KEYS: usize = 256;
-
-/// The most invocations that are kept.
-pub const MAX_INVOCATIONS: usize = 1_024;
-
-/// The most passes. No pack comes near it.
-pub const MAX_PASSES: usize = 512;
-
-/// What a call returns: number 0 and counts, or a refusal's number and place with all counts 0.
-#[derive(Clone, Copy, Debug, Default, PartialEq, Eq)]
-pub struct Answer {
-    pub number: u8,
-    pub place: u8,
-    pub counts: [u32; 5],
-    pub passes: u32,
-    pub tests: u32,
-}
 
 /// A call's answer and what it leaves in the five lent tables.
 #[derive(Clone, Debug, PartialEq, Eq)]
 pub struct Reply {
     pub answer: Answer,
     pub tables: [Vec<u8>; 5],
-}
-
-#[derive(Clone, Copy, Debug, PartialEq, Eq)]
-pub struct Refusal {
-    pub number: u8,
-    pub place: u8,
 }
 
 /// All that a pack leads to, before anything is asked about room.
@@ -95,7 +68,7 @@ pub fn fit(examined: &Result<Examined, Refusal>, lengths: &[usize; 5]) -> Reply 
             }
             examined.answer()
         }
-        Err(Refusal { number, place }) => Answer { number, place, ..Answer::default() },
+        Err(refusal) => Answer::refused(refusal),
     };
     Reply { answer, tables }
 }
@@ -104,7 +77,7 @@ impl Examined {
     /// Whole rows of every table are as many as needed, or the lowest table lacks some.
     fn with_room(&self, lengths: &[usize; 5]) -> Result<&Self, Refusal> {
         match (0..5).find(|&t| lengths[t] / WIDTHS[t] < self.needs[t]) {
-            Some(table) => Err(Refusal { number: 8, place: table as u8 }),
+            Some(t) => Err(Refusal::Room(Table::ALL[t])),
             None => Ok(self),
         }
     }
@@ -121,23 +94,19 @@ impl Examined {
 }
 
 fn examine_by(facts: &feed::FactsOf<'_>, names: &[u8], bytes: &[u8]) -> Result<Examined, Refusal> {
-    let names: &Names = names.try_into().map_err(|_| Refusal { number: 1, place: 0 })?;
-    let pack = pack::read(bytes).map_err(|fault| match fault {
-        Fault::Mark => Refusal { number: 2, place: 0 },
-        Fault::Starts => Refusal { number: 3, place: 0 },
-        Fault::Section(place) => Refusal { number: 4, place: place as u8 },
-    })?;
+    let names: &Names = names.try_into().map_err(|_| Refusal::Names)?;
+    let pack = pack::read(bytes)?;
     if pack.keys.len() > MAX_KEYS {
-        return Err(Refusal { number: 5, place: 0 });
+        return Err(Refusal::Keys);
     }
-    if kept(&pack) > MAX_INVOCATIONS {
-        return Err(Refusal { number: 6, place: 0 });
+    if pack.steps().len() > MAX_INVOCATIONS {
+        return Err(Refusal::Invocations);
     }
     original::names::lend(names);
     let facts = feed::facts_of(&pack, facts);
     let mints = Mints::of(&pack, &facts);
     if mints.passes > MAX_PASSES {
-        return Err(Refusal { number: 7, place: 0 });
+        return Err(Refusal::Passes);
     }
     let ends: Vec<_> = facts.invocations.iter().map(|invocation| invocation.end).collect();
     let tests = blocks::tests(&ends);
@@ -145,15 +114,4 @@ fn examine_by(facts: &feed::FactsOf<'_>, names: &[u8], bytes: &[u8]) -> Result<E
     let mut needs = std::array::from_fn(|t| rows[t].len() / WIDTHS[t]);
     needs[0] = mints.room;
     Ok(Examined { pack, facts, mints, tests, rows, needs })
-}
-
-/// Invocations that stay: outer instructions, and groups that name one of them.
-pub fn kept(pack: &Pack) -> usize {
-    let outers = pack.outer.len();
-    let inners = pack
-        .groups
-        .iter()
-        .filter(|group| (group.outer as usize) < outers)
-        .map(|group| group.instructions.len());
-    outers + inners.sum::<usize>()
 }

@@ -3,10 +3,11 @@
 use super::Coverage;
 use crate::generate::names::{BASE_IN, BASE_OUT, BUY, REWARD, STANDARD};
 use crate::generate::Case;
-use crate::oracle::{kept, Examined, Reply, WIDTHS};
+use crate::oracle::{Examined, Reply};
+use mbelaguy::pack::{self, Pack, MAX_BYTES};
+use mbelaguy::WIDTHS;
 use original::facts::Key;
 use original::instr::pump_amm::discriminators as pump_amm;
-use pack::{Pack, MAX_BYTES};
 use std::collections::BTreeSet;
 
 impl Coverage {
@@ -25,7 +26,7 @@ impl Coverage {
         self.note_if("61,440 bytes accepted", accepted && case.pack.len() == MAX_BYTES);
         let long = case.pack.len() == MAX_BYTES + 1;
         self.note_if("61,441 bytes refused", long && answer.number == 2);
-        let invocations = pack::read(&case.pack).map(|pack| kept(&pack));
+        let invocations = pack::read(&case.pack).map(|pack| pack.steps().len());
         self.note_if("1,025 invocations refused", invocations == Ok(1_025) && answer.number == 6);
         self.note_if("1,024 invocations accepted", accepted && answer.counts[1] == 1_024);
         self.note_if("256 keys accepted", accepted && keys == Ok(256));

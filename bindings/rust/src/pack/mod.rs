@@ -4,14 +4,20 @@
 //! balances, outer instructions, inner groups, graduated pools), then 24 bytes: where each section
 //! starts, and the mark `RTP1`.
 
+mod order;
 mod read;
 mod write;
 
-pub use read::{read, sections, Fault};
-pub use write::{join, TooMany};
+pub use crate::Key;
+pub use order::Step;
+pub use read::{read, sections};
+pub use write::{join, DoesNotFit};
 
-/// The most bytes that a pack may have. The writer does not hold to it, the reader does.
+/// The most bytes that a pack may have.
 pub const MAX_BYTES: usize = 61_440;
+
+/// The most accounts or bytes of data of an instruction, and instructions of a group.
+pub const MAX_COUNT: usize = u16::MAX as usize;
 
 /// Five starts of four bytes and the mark.
 pub const TRAILER: usize = 24;
@@ -27,8 +33,6 @@ pub const BALANCE_ROW: usize = 36;
 
 /// Bytes of a pool.
 pub const POOL_ROW: usize = 32;
-
-pub type Key = [u8; 32];
 
 /// What a pack says.
 #[derive(Clone, Debug, Default, PartialEq, Eq)]

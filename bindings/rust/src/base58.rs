@@ -1,9 +1,11 @@
-//! Base58 of 32 bytes, both ways. Decoding is a constant function, so that `pubkey!` makes constants.
+//! Base58 of 32 bytes, both ways. Decoding is a constant function, so that keys can be constants.
+
+use crate::Key;
 
 const ALPHABET: &[u8; 58] = b"123456789ABCDEFGHJKLMNPQRSTUVWXYZabcdefghijkmnopqrstuvwxyz";
 
 /// The 32 bytes of a text, if it is base58 of exactly 32 bytes.
-pub const fn decode(text: &str) -> Option<[u8; 32]> {
+pub const fn decode(text: &str) -> Option<Key> {
     let text = text.as_bytes();
     let mut key = [0u8; 32];
     let mut ones = 0;
@@ -35,8 +37,16 @@ pub const fn decode(text: &str) -> Option<[u8; 32]> {
     }
 }
 
+/// The key of a text in this crate's own source.
+pub(crate) const fn literal(text: &str) -> Key {
+    match decode(text) {
+        Some(key) => key,
+        None => panic!("no base58 of 32 bytes"),
+    }
+}
+
 /// The text of 32 bytes.
-pub fn encode(key: &[u8; 32]) -> String {
+pub fn encode(key: &Key) -> String {
     let zeros = leading_zeros(key);
     let mut digits: Vec<u8> = Vec::with_capacity(44);
     for &byte in &key[zeros..] {
@@ -57,6 +67,12 @@ pub fn encode(key: &[u8; 32]) -> String {
         .collect()
 }
 
+/// The first and the last four letters of a key's text, enough to tell keys apart by eye.
+pub fn short(key: &Key) -> String {
+    let text = encode(key);
+    format!("{}..{}", &text[..4], &text[text.len() - 4..])
+}
+
 const fn digit(letter: u8) -> Option<u8> {
     let mut value = 0;
     while value < 58 {
@@ -68,7 +84,7 @@ const fn digit(letter: u8) -> Option<u8> {
     None
 }
 
-const fn leading_zeros(key: &[u8; 32]) -> usize {
+const fn leading_zeros(key: &Key) -> usize {
     let mut count = 0;
     while count < 32 && key[count] == 0 {
         count += 1;

@@ -1,0 +1,42 @@
+//! Mbelaguy for Rust: which token did a Solana account hold, and who moved what?
+//!
+//! One transaction goes in as a *pack* ([`pack::Pack`], written from plain values), five tables come
+//! out: a mint for each token account, the invocations, the token transfers, the swap legs, and the
+//! actions on wrapped SOL. [`route`] fills them by the proved library; [`Tables`] holds them and
+//! reads them as typed rows. docs/FORMAT.md has all of it byte by byte.
+//!
+//! Whatever goes in, nothing here panics: what the library refuses is a [`Refusal`], what does not
+//! fit into a pack a [`pack::DoesNotFit`], bytes that are no table a [`BadTable`].
+//!
+//! Only [`route`] needs the static library. Without the feature `link` the rest stands by itself.
+
+mod answer;
+pub mod base58;
+mod bytes;
+pub mod ids;
+#[cfg(feature = "link")]
+mod library;
+mod names;
+pub mod pack;
+mod refusal;
+pub mod rows;
+mod tables;
+
+pub use answer::Answer;
+#[cfg(feature = "link")]
+pub use library::{route, route_into};
+pub use names::Names;
+pub use refusal::{Refusal, Section, Table};
+pub use tables::{BadTable, Tables, MOST_ROWS, WIDTHS};
+
+/// A key, an account, a mint, a program: 32 bytes.
+pub type Key = [u8; 32];
+
+/// The most keys of a pack that is not refused.
+pub const MAX_KEYS: usize = 256;
+
+/// The most invocations that are kept.
+pub const MAX_INVOCATIONS: usize = 1_024;
+
+/// The most passes over the plain transfers. No pack comes near it.
+pub const MAX_PASSES: usize = 512;

@@ -1,0 +1,157 @@
+//! Why a call is refused, by number and place.
+
+use std::error::Error;
+use std::fmt;
+
+/// A refusal. Of those that apply, the one with the lowest number is given.
+#[derive(Clone, Copy, Debug, PartialEq, Eq)]
+pub enum Refusal {
+    /// 1: the names are not 88 bytes.
+    Names,
+    /// 2: the pack is too short or too long, or its mark is another.
+    Mark,
+    /// 3: the starts of the sections break their rule.
+    Starts,
+    /// 4: the lowest section with a partial row or item, a flag that is neither 0 nor 1, or a
+    /// height without its flag.
+    Section(Section),
+    /// 5: over 256 keys.
+    Keys,
+    /// 6: over 1,024 kept invocations.
+    Invocations,
+    /// 7: over 512 passes.
+    Passes,
+    /// 8: the lowest table that has fewer whole rows than are needed.
+    Room(Table),
+    /// A number or place that this crate does not know: the library is of another release.
+    Unknown { number: u32, place: u32 },
+}
+
+/// A section of a pack.
+#[derive(Clone, Copy, Debug, PartialEq, Eq)]
+pub enum Section {
+    Keys,
+    Balances,
+    Outer,
+    Inner,
+    Pools,
+}
+
+/// One of the five tables.
+#[derive(Clone, Copy, Debug, PartialEq, Eq)]
+pub enum Table {
+    Mints,
+    Invocations,
+    Transfers,
+    Legs,
+    Natives,
+}
+
+impl Section {
+    pub const ALL: [Self; 5] = [Self::Keys, Self::Balances, Self::Outer, Self::Inner, Self::Pools];
+}
+
+impl Table {
+    pub const ALL: [Self; 5] =
+        [Self::Mints, Self::Invocations, Self::Transfers, Self::Legs, Self::Natives];
+}
+
+impl Refusal {
+    /// The refusal of a number and place other than 0.
+    pub fn of(number: u32, place: u32) -> Self {
+        match (number, place) {
+            (1, 0) => Self::Names,
+            (2, 0) => Self::Mark,
+            (3, 0) => Self::Starts,
+            (4, 0..5) => Self::Section(Section::ALL[place as usize]),
+            (5, 0) => Self::Keys,
+            (6, 0) => Self::Invocations,
+            (7, 0) => Self::Passes,
+            (8, 0..5) => Self::Room(Table::ALL[place as usize]),
+            _ => Self::Unknown { number, place },
+        }
+    }
+
+    pub fn number(self) -> u32 {
+        match self {
+            Self::Names => 1,
+            Self::Mark => 2,
+            Self::Starts => 3,
+            Self::Section(_) => 4,
+            Self::Keys => 5,
+            Self::Invocations => 6,
+            Self::Passes => 7,
+            Self::Room(_) => 8,
+            Self::Unknown { number, .. } => number,
+        }
+    }
+
+    pub fn place(self) -> u32 {
+        match self {
+            Self::Section(section) => section as u32,
+            Self::Room(table) => table as u32,
+            Self::Unknown { place, .. } => place,
+            _ => 0,
+        }
+    }
+}
+
+impl fmt::Display for Refusal {
+    fn fmt(&self, f: &mut fmt::Formatter<'_>) -> fmt::Result {
+        write!(f, "refusal {}", self.number())?;
+        match self {
+            Self::Section(section) => write!(f, ", section {} ({section})", *section as u32)?,
+            Self::Room(table) => write!(f, ", table {} ({table})", *table as u32)?,
+            Self::Unknown { place, .. } => write!(f, ", place {place}")?,
+            _ => {}
+        }
+        f.write_str(": ")?;
+        f.write_str(match self {
+            Self::Names => "the names are not 88 bytes",
+            Self::Mark => {
+                "the pack is shorter than 24 or longer than 61,440 bytes, or does not end in RTP1"
+            }
+            Self::Starts => {
+                "the sections do not start at 0, one after the other, before the trailer"
+            }
+            Self::Section(Section::Keys) => "it ends inside a row, or a flag is neither 0 nor 1",
+            Self::Section(Section::Balances | Section::Pools) => "it ends inside a row",
+            Self::Section(Section::Outer) => "it ends inside an instruction",
+            Self::Section(Section::Inner) => {
+                "it ends inside a group or an instruction, a flag is neither 0 nor 1, or a height \
+                 stands beside flag 0"
+            }
+            Self::Keys => "there are more than 256 keys",
+            Self::Invocations => "there are more than 1,024 invocations",
+            Self::Passes => "there would be more than 512 passes over the plain transfers",
+            Self::Room(_) => "it has fewer whole rows than are needed",
+            Self::Unknown { .. } => "not known here; the library is of another release",
+        })
+    }
+}
+
+impl Error for Refusal {}
+
+impl fmt::Display for Section {
+    fn fmt(&self, f: &mut fmt::Formatter<'_>) -> fmt::Result {
+        f.write_str(match self {
+            Self::Keys => "keys",
+            Self::Balances => "balances",
+            Self::Outer => "outer instructions",
+            Self::Inner => "inner instructions",
+            Self::Pools => "graduated pools",
+        })
+    }
+}
+
+impl fmt::Display for Table {
+    fn fmt(&self, f: &mut fmt::Formatter<'_>) -> fmt::Result {
+        f.write_str(match self {
+            Self::Mints => "mints",
+            Self::Invocations => "invocations",
+            Self::Transfers => "transfers",
+            Self::Legs => "legs",
+            Self::Natives => "native actions",
+        })
+    }
+}

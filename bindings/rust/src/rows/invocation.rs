@@ -1,0 +1,81 @@
+//! Table 1: the invocations in execution order.
+
+use super::Row;
+use crate::bytes::Reader;
+use crate::Table;
+
+#[derive(Clone, Copy, Debug, PartialEq, Eq)]
+pub struct Invocation {
+    /// Index of the outer instruction.
+    pub outer: u32,
+    /// Index in its group; none for an outer instruction.
+    pub inner: Option<u32>,
+    /// Stack height, where the pack tells it.
+    pub height: Option<u32>,
+    /// The first later invocation that is not below this one, or the number of all.
+    pub end: u32,
+    /// Token transfers lie below it.
+    pub transfers_inside: bool,
+    /// Swap legs lie below it.
+    pub swaps_inside: bool,
+    /// A program that routes pass over: Token, System, Compute Budget, Associated Token, Memo.
+    pub skipped: bool,
+    /// Its program is a key of 32 bytes.
+    pub resolved: bool,
+    /// It is a token transfer.
+    pub own_transfer: bool,
+    /// Its row among the legs.
+    pub leg: Option<u32>,
+}
+
+impl Invocation {
+    /// The bits of a row.
+    pub const TRANSFERS_INSIDE: u8 = 1;
+    pub const SWAPS_INSIDE: u8 = 2;
+    pub const SKIPPED: u8 = 4;
+    pub const RESOLVED: u8 = 8;
+    pub const OWN_LEG: u8 = 16;
+    pub const OWN_TRANSFER: u8 = 32;
+
+    /// The bits as the row has them.
+    pub fn bits(&self) -> u8 {
+        [
+            (self.transfers_inside, Self::TRANSFERS_INSIDE),
+            (self.swaps_inside, Self::SWAPS_INSIDE),
+            (self.skipped, Self::SKIPPED),
+            (self.resolved, Self::RESOLVED),
+            (self.leg.is_some(), Self::OWN_LEG),
+            (self.own_transfer, Self::OWN_TRANSFER),
+        ]
+        .into_iter()
+        .map(|(is, bit)| u8::from(is) * bit)
+        .sum()
+    }
+}
+
+impl Row for Invocation {
+    const TABLE: Table = Table::Invocations;
+
+    fn read_fields(reader: &mut Reader<'_>) -> Option<Self> {
+        let outer = reader.u32()?;
+        let inner = reader.optional()?.map(u32::from_le_bytes);
+        let height = reader.optional()?.map(u32::from_le_bytes);
+        let end = reader.u32()?;
+        let bits = reader.byte()?;
+        let leg = reader.u32()?.checked_sub(1);
+        let invocation = Invocation {
+            outer,
+            inner,
+            height,
+            end,
+            transfers_inside: bits & Self::TRANSFERS_INSIDE != 0,
+            swaps_inside: bits & Self::SWAPS_INSIDE != 0,
+            skipped: bits & Self::SKIPPED != 0,
+            resolved: bits & Self::RESOLVED != 0,
+            own_transfer: bits & Self::OWN_TRANSFER != 0,
+            leg,
+        };
+        // Also refuses unknown bits, and a bit 'own leg' that does not go with the leg's number.
+        (invocation.bits() == bits).then_some(invocation)
+    }
+}

@@ -1,0 +1,90 @@
+//! The call through the library: answers, refusals, tables of any size.
+
+use mbelaguy::pack::{Balance, Group, Inner, Instruction, KeyRow, Pack, MAX_BYTES};
+use mbelaguy::rows::Mark;
+use mbelaguy::{ids, route, route_into, Answer, Names, Refusal, Section, Table, Tables};
+
+/// A records a mint; a plain transfer carries it to B.
+fn transfer() -> Pack {
+    let keys = [[1; 32], [2; 32], ids::SPL_TOKEN].map(|key| KeyRow { whole: true, key });
+    let data = [&[3], &7u64.to_le_bytes()[..]].concat();
+    Pack {
+        keys: keys.to_vec(),
+        balances: vec![Balance { account: 0, mint: [9; 32] }],
+        outer: vec![Instruction { program: 2, accounts: vec![0, 1, 0], data }],
+        ..Pack::default()
+    }
+}
+
+fn names() -> [u8; 88] {
+    Names::ORIGINAL.bytes()
+}
+
+#[test]
+fn a_plain_transfer_fills_in_a_mint() {
+    let mut tables = Tables::full();
+    let answer = route(&names(), &transfer().write().unwrap(), &mut tables).unwrap();
+    let expected = Answer { counts: [2, 1, 1, 0, 0], passes: 2, tests: 0, ..Answer::default() };
+    assert_eq!(answer, expected);
+    let mints: Vec<_> = tables.mints().map(|row| (row.account, row.mint, row.mark)).collect();
+    assert_eq!(mints, [([1; 32], [9; 32], Mark::Recorded), ([2; 32], [9; 32], Mark::FilledIn)]);
+    let transfer = tables.transfers().next().unwrap();
+    assert_eq!((transfer.amount, transfer.fee, transfer.mint), (7, Some(0), Some([9; 32])));
+}
+
+#[test]
+fn the_listing_of_the_scope() {
+    let inner = |height| Inner { height: Some(height), instruction: Instruction::default() };
+    let pack = Pack {
+        outer: vec![Instruction::default()],
+        groups: vec![Group { outer: 0, instructions: vec![inner(2), inner(3)] }],
+        ..Pack::default()
+    };
+    let mut tables = Tables::full();
+    let answer = route(&[0; 88], &pack.write().unwrap(), &mut tables).unwrap();
+    assert_eq!((answer.counts, answer.passes, answer.tests), ([0, 3, 0, 0, 0], 0, 2));
+    assert!(tables.invocations().all(|row| row.end == 3));
+}
+
+#[test]
+fn bad_use_is_an_error_value() {
+    let pack = transfer().write().unwrap();
+    let full = || Tables::full();
+    assert_eq!(route(&[0; 87], &pack, &mut full()), Err(Refusal::Names));
+    assert_eq!(route(&[], &[], &mut full()), Err(Refusal::Names));
+    assert_eq!(route(&names(), &[], &mut full()), Err(Refusal::Mark));
+    assert_eq!(route(&names(), &[0; MAX_BYTES + 1], &mut full()), Err(Refusal::Mark));
+    let room = |table: Table| {
+        let mut rows = [2, 1, 1, 0, 0];
+        rows[table as usize] -= 1;
+        route(&names(), &pack, &mut Tables::with_room(rows))
+    };
+    for table in [Table::Mints, Table::Invocations, Table::Transfers] {
+        assert_eq!(room(table), Err(Refusal::Room(table)));
+    }
+    let mut flags = pack.clone();
+    flags[0] = 2;
+    assert_eq!(route(&names(), &flags, &mut full()), Err(Refusal::Section(Section::Keys)));
+}
+
+#[test]
+fn a_refusal_empties_the_tables() {
+    let mut tables = Tables::full();
+    route(&names(), &transfer().write().unwrap(), &mut tables).unwrap();
+    assert_eq!(route(&names(), &[], &mut tables), Err(Refusal::Mark));
+    assert_eq!(tables, Tables::full());
+}
+
+#[test]
+fn tables_of_any_length() {
+    let pack = transfer().write().unwrap();
+    let mut tables = [131, 24, 151, 1, 0].map(|length| vec![255; length]);
+    let lent = tables.each_mut().map(Vec::as_mut_slice);
+    let answer = route_into(&names(), &pack, lent);
+    assert_eq!(answer.refusal(), None);
+    for (table, used) in tables.iter().zip([130, 23, 150, 0, 0]) {
+        assert!(table[used..].iter().all(|byte| *byte == 0));
+    }
+    let kept = Tables::read(&answer, tables).unwrap();
+    assert_eq!(kept.mints().len(), 2);
+}

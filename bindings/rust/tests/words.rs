@@ -1,0 +1,58 @@
+//! What is written for a person: keys, marks and refusals.
+
+use mbelaguy::{base58, ids, Refusal, Section, Table};
+
+#[test]
+fn base58_both_ways() {
+    for (key, _) in ids::NAMED {
+        assert_eq!(base58::decode(&base58::encode(&key)), Some(key));
+    }
+    assert_eq!(base58::encode(&[0; 32]), "1".repeat(32));
+    assert_eq!(base58::encode(&[255; 32]), "JEKNVnkbo3jma5nREBBJCDoXFVeKkD56V3xKrvRmWxFG");
+    assert_eq!(base58::short(&ids::SPL_TOKEN), "Toke..Q5DA");
+}
+
+#[test]
+fn what_is_no_key() {
+    let long = "1".repeat(33);
+    for text in ["", "0", "l", "abc", &long, "JEKNVnkbo3jma5nREBBJCDoXFVeKkD56V3xKrvRmWxFH"] {
+        assert_eq!(base58::decode(text), None, "{text}");
+    }
+}
+
+#[test]
+fn names_of_ids() {
+    assert_eq!(ids::name(&ids::WRAPPED_SOL), Some("wrapped SOL"));
+    assert_eq!(ids::name(&ids::SYSTEM), None);
+}
+
+#[test]
+fn refusals_by_number_and_place() {
+    let mut known = 0;
+    for number in 1..30 {
+        for place in 0..7 {
+            let refusal = Refusal::of(number, place);
+            assert_eq!((refusal.number(), refusal.place()), (number, place));
+            known += u32::from(refusal != Refusal::Unknown { number, place });
+        }
+    }
+    assert_eq!(known, 6 + 5 + 5);
+}
+
+#[test]
+fn refusals_in_words() {
+    let words = |refusal: Refusal| refusal.to_string();
+    assert_eq!(words(Refusal::Names), "refusal 1: the names are not 88 bytes");
+    assert_eq!(
+        words(Refusal::Section(Section::Outer)),
+        "refusal 4, section 2 (outer instructions): it ends inside an instruction"
+    );
+    assert_eq!(
+        words(Refusal::Room(Table::Natives)),
+        "refusal 8, table 4 (native actions): it has fewer whole rows than are needed"
+    );
+    assert_eq!(
+        words(Refusal::of(11, 0)),
+        "refusal 11, place 0: not known here; the library is of another release"
+    );
+}

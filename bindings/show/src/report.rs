@@ -1,0 +1,87 @@
+//! What is shown of a pack: its sizes, the mints, and the invocations as a tree with what each did.
+
+use mbelaguy::pack::{self, Pack};
+use mbelaguy::rows::{Invocation, Leg, MintRow, Native, Transfer};
+use mbelaguy::{Answer, Key, Refusal, Tables};
+
+/// The tables of an accepted pack, put together.
+#[derive(Clone, Debug)]
+pub struct Report {
+    pub bytes: usize,
+    pub pack: Pack,
+    pub answer: Answer,
+    pub mints: Vec<MintRow>,
+    pub nodes: Vec<Node>,
+}
+
+/// An invocation in the tree.
+#[derive(Clone, Debug)]
+pub struct Node {
+    pub invocation: Invocation,
+    /// How many invocations it lies below.
+    pub depth: usize,
+    /// Whether another one follows below the same invocation.
+    pub has_next: bool,
+    pub program: Program,
+    pub deeds: Vec<Deed>,
+}
+
+/// What an invocation called.
+#[derive(Clone, Copy, Debug, PartialEq, Eq)]
+pub enum Program {
+    Key(Key),
+    /// The index that names no key of 32 bytes.
+    Unresolved(u32),
+}
+
+/// What an invocation did.
+#[derive(Clone, Copy, Debug)]
+pub enum Deed {
+    Leg(Leg),
+    Transfer(Transfer),
+    Native(Native),
+}
+
+impl Report {
+    /// The report of a pack and of the answer and tables that it led to.
+    pub fn new(bytes: &[u8], answer: &Answer, tables: &Tables) -> Result<Self, Refusal> {
+        if let Some(refusal) = answer.refusal() {
+            return Err(refusal);
+        }
+        let pack = pack::read(bytes)?;
+        let nodes = nodes(&pack, tables);
+        let mints = tables.mints().collect();
+        Ok(Report { bytes: bytes.len(), pack, answer: *answer, mints, nodes })
+    }
+}
+
+fn nodes(pack: &Pack, tables: &Tables) -> Vec<Node> {
+    let all = tables.invocations().len() as u32;
+    // Ends of the invocations that the current one lies below, the innermost last.
+    let mut above: Vec<u32> = Vec::new();
+    let mut nodes = Vec::with_capacity(all as usize);
+    for ((number, invocation), step) in (0..).zip(tables.invocations()).zip(pack.steps()) {
+        while above.last().is_some_and(|end| *end <= number) {
+            above.pop();
+        }
+        let index = step.instruction.program;
+        let key = pack.keys.get(index as usize).filter(|_| invocation.resolved);
+        nodes.push(Node {
+            invocation,
+            depth: above.len(),
+            has_next: invocation.end < above.last().copied().unwrap_or(all),
+            program: key.map_or(Program::Unresolved(index), |row| Program::Key(row.key)),
+            deeds: Vec::new(),
+        });
+        above.push(invocation.end);
+    }
+    let deeds = tables.legs().map(|leg| (leg.invocation, Deed::Leg(leg)));
+    let deeds = deeds.chain(tables.transfers().map(|row| (row.invocation, Deed::Transfer(row))));
+    let deeds = deeds.chain(tables.natives().map(|row| (row.invocation, Deed::Native(row))));
+    for (invocation, deed) in deeds {
+        if let Some(node) = nodes.get_mut(invocation as usize) {
+            node.deeds.push(deed);
+        }
+    }
+    nodes
+}

@@ -1,0 +1,96 @@
+//! The typed rows of the bindings, read out of the oracle's tables, against the original's facts.
+
+use super::{hold, same, Outcome};
+use crate::oracle::{Examined, Reply};
+use mbelaguy::rows::{Action, Invocation, Leg, MintRow, Native, Transfer};
+use mbelaguy::Tables;
+use original::facts;
+
+/// Each row says what the original found, and there are no others.
+pub fn agree(examined: &Examined, reply: &Reply) -> Outcome {
+    let tables =
+        Tables::read(&reply.answer, reply.tables.clone()).map_err(|bad| bad.to_string())?;
+    let facts = &examined.facts;
+    let mints = facts.mints.iter().map(|(account, mint)| (*account, *mint));
+    hold("mints", tables.mints().map(|MintRow { account, mint, .. }| (account, mint)).eq(mints))?;
+    let marks = examined.mints.marks.values().copied();
+    hold("marks", tables.mints().map(|row| row.mark as u8).eq(marks))?;
+    let mut transfers = tables.transfers();
+    let mut legs = tables.legs();
+    let mut natives = tables.natives();
+    same("invocations", tables.invocations().len(), facts.invocations.len())?;
+    for ((number, row), invocation) in (0..).zip(tables.invocations()).zip(&facts.invocations) {
+        same("invocation", row, invocation_row(invocation))?;
+        if let Some(transfer) = &invocation.transfer {
+            same("transfer", transfers.next(), Some(transfer_row(number, transfer)))?;
+        }
+        if let Some(leg) = invocation.leg {
+            let found = legs.next();
+            same("protocol", found.map(|leg| leg.protocol as u8), Some(facts.legs[leg].protocol))?;
+            let mode = found.and_then(|leg| leg.mode).map_or(0, |mode| mode as u8);
+            same("mode", mode, facts.legs[leg].mode)?;
+            let expected = found.map(|found| leg_row(number, &facts.legs[leg], found));
+            same("leg", found, expected)?;
+        }
+        if let Some(native) = &invocation.native {
+            same("native action", natives.next(), Some(native_row(number, native)))?;
+        }
+    }
+    same("rows left", (transfers.len(), legs.len(), natives.len()), (0, 0, 0))
+}
+
+fn invocation_row(invocation: &facts::Invocation) -> Invocation {
+    Invocation {
+        outer: invocation.outer,
+        inner: invocation.inner,
+        height: invocation.height,
+        end: invocation.end as u32,
+        transfers_inside: invocation.transfers_inside,
+        swaps_inside: invocation.swaps_inside,
+        skipped: invocation.skip_route,
+        resolved: invocation.resolved,
+        own_transfer: invocation.transfer.is_some(),
+        leg: invocation.leg.map(|leg| leg as u32),
+    }
+}
+
+fn transfer_row(invocation: u32, transfer: &facts::Transfer) -> Transfer {
+    Transfer {
+        invocation,
+        program: transfer.program,
+        source: transfer.source,
+        destination: transfer.destination,
+        mint: transfer.mint,
+        amount: transfer.amount,
+        fee: transfer.fee,
+    }
+}
+
+/// Protocol and mode are compared by their numbers and taken from what was read.
+fn leg_row(invocation: u32, leg: &facts::Leg, Leg { protocol, mode, .. }: Leg) -> Leg {
+    Leg {
+        invocation,
+        protocol,
+        program: leg.program,
+        pool: leg.pool,
+        trader: leg.trader,
+        input: leg.input,
+        output: leg.output,
+        input_mint: leg.input_mint,
+        output_mint: leg.output_mint,
+        exact_in: leg.exact_in,
+        amount: leg.amount,
+        threshold: leg.threshold,
+        mode,
+        graduated: leg.graduated,
+    }
+}
+
+fn native_row(invocation: u32, native: &facts::Native) -> Native {
+    let action = match native.action {
+        facts::Action::Fund { source, lamports } => Action::Fund { source, lamports },
+        facts::Action::Sync => Action::Sync,
+        facts::Action::Close { destination, authority } => Action::Close { destination, authority },
+    };
+    Native { invocation, account: native.account, action }
+}
