@@ -12,3 +12,6 @@ pub mod OrderTable
 pub mod OrderMints
 pub mod OrderWays
 pub mod Order
+pub mod Inferring
+pub mod Filling
+pub mod Success

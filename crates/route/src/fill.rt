@@ -2,13 +2,17 @@
 use crate::Answer;
 use crate::actions;
 use crate::fit::fit;
+use crate::fit::refusal;
 use crate::invocations;
 use crate::legs;
 use crate::transfers;
+use mints::Inferred;
 ghost use mathlib.Core.Path.{_≡_};
 ghost use Prim.Native.Nat.{_≤_};
 ghost use lib.ListN.{length};
-ghost use Rattle.route.specs.Filled.{Finishes};
+ghost use Rattle.wire.specs.Zeros.{zeros};
+ghost use Rattle.pack.specs.Verdict.{verdict, numberOf};
+ghost use Rattle.route.specs.Filled.{Finishes, Filled};
 
 // Tables 1 to 4 and the answer, once the mints are inferred: table 0 has `bytes` bytes, needs room for `room` rows and has `rows`.
 //
@@ -88,4 +92,58 @@ fn finish<'a>(
             tests,
         },
     )
+}
+
+// A pack with a good verdict, into tables that are zero.
+pub(crate) fn fill(
+    names: &[u8],
+    pack: &[u8],
+    t0: &mut [u8],
+    t1: &mut [u8],
+    t2: &mut [u8],
+    t3: &mut [u8],
+    t4: &mut [u8],
+) -> Answer
+    requires { ⌜ numberOf (verdict (now pack)) ≡ 0 ⌝ }
+    requires { ⌜ (now t0 ≡ zeros (length (now t0))) × (now t1 ≡ zeros (length (now t1))) × (now t2 ≡ zeros (length (now t2))) × (now t3 ≡ zeros (length (now t3))) × (now t4 ≡ zeros (length (now t4))) ⌝ }
+    ensures { λ r. ⌜ Filled (now (names .entry)) (now (pack .entry)) (now (t0 .entry)) (now (t1 .entry)) (now (t2 .entry)) (now (t3 .entry)) (now (t4 .entry)) r (now (t0 .exit)) (now (t1 .exit)) (now (t2 .exit)) (now (t3 .exit)) (now (t4 .exit)) ⌝ }
+{
+    let mut at = [0u32; 1024];
+    let mut outer = [0u32; 1024];
+    let mut inner = [0u32; 1024];
+    let mut height = [0u64; 1024];
+    let n = pack::flatten(pack, &mut at, &mut outer, &mut inner, &mut height);
+    let mut known = [0u8; 8192];
+    let inferred = mints::infer(
+        pack::section(pack, 0),
+        pack::section(pack, 1),
+        pack,
+        &at[0..n],
+        t0,
+        &mut known,
+    );
+    match inferred {
+        Inferred::TooManyPasses => refusal(7, 0),
+        Inferred::Made(room, rows, passes) => {
+            let bytes = t0.len();
+            finish(
+                names,
+                pack,
+                n,
+                &at,
+                &outer,
+                &inner,
+                &height,
+                &known,
+                bytes,
+                room,
+                rows as u32,
+                passes as u32,
+                t1,
+                t2,
+                t3,
+                t4,
+            )
+        }
+    }
 }
