@@ -15,3 +15,4 @@ pub mod Order
 pub mod Inferring
 pub mod Filling
 pub mod Success
+pub mod Called
