@@ -1,7 +1,7 @@
 -- The instructions: what they record is noted, and their plain transfers stand in two lists of row numbers.
 -- Assumes nothing.
-use mathlib.Core.Path.{_≡_, refl, sym, ap, ap₂, _∙_, subst}
-use mathlib.Core.Logic.{_≢_, by-cases}
+use mathlib.Core.Path.{_≡_, refl, sym, ap, _∙_}
+use mathlib.Core.Logic.{by-cases}
 use mathlib.Core.Bool.{Bool, true, false, cond}
 use mathlib.Core.List.{List, [], _∷_, _++_, map, append-nil}
 use Prim.Native.Nat.{ℕ, zero, suc, _+_, _≤_, _<_}
@@ -9,10 +9,9 @@ use native.Mathlib.Decide.{ℕ-discrete}
 use native.Mathlib.Omega.{arith}
 use lib.ListN.{length, getD, set, take, length-map, length-set, List·getD-map}
 use lib.Seq.{getD-set-same, getD-set-other}
-use Rattle.ids.specs.Keys.{Key, keyOf, account}
+use Rattle.ids.specs.Keys.{Key, keyOf}
 use Rattle.ids.specs.Which.{programAt}
 use Rattle.pack.specs.Invocation.{Instruction, instructionAt}
-use Rattle.token.specs.Tokens.{tokenOf}
 use Rattle.token.specs.declared.Token.{Token}
 use Rattle.token.specs.declared.Token.the-variants.{Other, Initialise, Plain, Checked, WithFee}
 use Rattle.evidence.specs.Table.{Row, Table}
@@ -21,7 +20,7 @@ use Rattle.evidence.specs.Passes.{Transfers}
 use Rattle.evidence.specs.Gather.{gather}
 use Rattle.evidence.specs.Loops.{gather-take, noteAll-append}
 use Rattle.mints.specs.Note.{Noted}
-use Rattle.mints.specs.Gather.{rowOf, observed, isPlain, tokenAt, Gathered, gatherAt, gatherTo}
+use Rattle.mints.specs.Gather.{rowOf, isPlain, tokenAt, Gathered, gatherAt, gatherTo}
 use Rattle.mints.specs.Inference.{says, moves}
 use Rattle.mints.proofs.Search.{key-length}
 use Rattle.mints.proofs.Pieces.{pieces, moved, records-read, plain-read}

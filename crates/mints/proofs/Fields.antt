@@ -1,12 +1,12 @@
 -- What a store in one row of the table leaves of every row.
 -- Assumes nothing.
-use mathlib.Core.Path.{_≡_, refl, sym, ap, _∙_}
+use mathlib.Core.Path.{_≡_, sym, _∙_}
 use mathlib.Core.Logic.{_≢_, _⊎_, inl, inr, ⊎-elim, by-cases}
-use mathlib.Core.List.{List, [], _∷_, _++_}
-use Prim.Native.Nat.{ℕ, suc, _+_, _-_, _*_, _≤_, _<_}
+use mathlib.Core.List.{List, [], _∷_}
+use Prim.Native.Nat.{ℕ, _+_, _*_, _≤_, _<_}
 use native.Mathlib.Decide.{decLt}
 use native.Mathlib.Omega.{arith}
-use lib.ListN.{length, getD, set, take, drop, length-take, length-drop, length-set}
+use lib.ListN.{length, take, drop, length-take, length-drop, length-set}
 use lib.Seq.{sets, length-sets, ext-getD, getD-take, getD-drop, getD-set-same, getD-set-other}
 use Rattle.wire.specs.Sets.{sets-before, sets-after, sets-in}
 use Rattle.ids.specs.Keys.{Key}

@@ -1,12 +1,12 @@
 -- One instruction more.
 -- Assumes nothing.
-use mathlib.Core.Path.{_≡_, refl}
+use mathlib.Core.Path.{_≡_}
 use mathlib.Core.Bool.{true, false}
 use mathlib.Core.List.{List}
-use Prim.Native.Nat.{ℕ, suc, _+_, _≤_}
+use Prim.Native.Nat.{ℕ, _+_, _≤_}
 use native.Mathlib.Numerals.{add-one}
 use native.Mathlib.Omega.{arith}
-use lib.ListN.{length, getD, set}
+use lib.ListN.{getD, set}
 use Rattle.ids.specs.Keys.{Key, keyOf}
 use Rattle.pack.specs.Invocation.{instructionAt}
 use Rattle.token.specs.declared.Token.{Token}

@@ -12,9 +12,11 @@ pub mod Holding
 pub mod Recorded
 pub mod Stepped
 pub mod Runs
+pub mod States
 pub mod Marked
 pub mod Written
 pub mod Laid
+pub mod Begun
 pub mod Pieces
 pub mod Observed
 pub mod Collected
@@ -22,3 +24,4 @@ pub mod Prepared
 pub mod Preparing
 pub mod Right
 pub mod Working
+pub mod Known

@@ -2,8 +2,8 @@
 -- Assumes nothing.
 use mathlib.Core.Path.{_≡_, refl, sym, ap, _∙_, subst}
 use mathlib.Core.Bool.{Bool, true, false, cond}
-use mathlib.Core.List.{List, [], _∷_, _++_, map}
-use Prim.Native.Nat.{ℕ, zero, suc, _+_, _-_, _*_, _/_, _^_, _≤_, _<_}
+use mathlib.Core.List.{List, []}
+use Prim.Native.Nat.{ℕ, zero, suc, _+_, _*_, _/_, _≤_, _<_}
 use native.Mathlib.Nat.{zero-add}
 use native.Mathlib.Omega.{arith}
 use lib.Dec.{ltb}
@@ -16,11 +16,11 @@ use Rattle.pack.specs.View.{balancesIn}
 use Rattle.token.specs.Records.{bothEnds}
 use Rattle.token.specs.declared.Token.{Token}
 use Rattle.token.specs.declared.Token.the-variants.{Other, Initialise, Plain, Checked, WithFee}
-use Rattle.evidence.specs.Table.{Row, Table}
-use Rattle.evidence.specs.Evidence.{Evidence, note, noteAll}
+use Rattle.evidence.specs.Table.{Table}
+use Rattle.evidence.specs.Evidence.{note, noteAll}
 use Rattle.evidence.specs.Gather.{gather}
 use Rattle.evidence.specs.Loops.{gather-take, noteAll-append}
-use Rattle.mints.specs.Note.{Noted, recordAt, newAt, noteAt, balancesTo}
+use Rattle.mints.specs.Note.{Noted, noteAt, balancesTo}
 use Rattle.mints.specs.Gather.{rowOf, noteAccount, observed}
 use Rattle.mints.specs.Inference.{balanceSays}
 use Rattle.mints.proofs.Ordering.{drop-take}

@@ -1,15 +1,15 @@
 -- The order of keys byte by byte, and a row number put in between others.
 -- Assumes nothing.
-use mathlib.Core.Path.{_≡_, refl, sym, ap, _∙_}
-use mathlib.Core.Bool.{Bool, true, false, cond, _&&_, _||_}
-use mathlib.Core.List.{List, [], _∷_, _++_}
+use mathlib.Core.Path.{_≡_, refl, ap, _∙_}
+use mathlib.Core.Bool.{Bool, true, false, _&&_, _||_}
+use mathlib.Core.List.{List, _∷_, _++_}
 use Prim.Native.Nat.{ℕ, suc, _+_, _-_, _≤_, _<_}
 use native.Mathlib.Numerals.{add-one}
 use native.Mathlib.Omega.{arith}
 use borrow.Author.Tests.{ltb-true, ltb-false}
 use lib.Dec.{ltb, eqb}
 use lib.ListN.{length, getD, set, take, drop, drop-of-length-le, length-append, length-take, length-drop}
-use lib.Seq.{sets, drop-cons, getD-drop, sets-eq, take-at, take-take, take-add, drop-at, length-take-le}
+use lib.Seq.{sets, drop-cons, sets-eq, take-at, take-take, take-add, drop-at, length-take-le}
 use Rattle.wire.specs.Sets.{sets-before, sets-front}
 use Rattle.evidence.specs.Keys.{ltKey}
 

@@ -10,8 +10,7 @@ use lib.Dec.{eqb, ltb}
 use lib.ListN.{getD}
 use borrow.Author.Tests.{eq-eqb, ne-eqb, lt-ltb, le-ltb}
 use Rattle.mints.specs.Cells.{stateAt}
-use Rattle.mints.specs.Note.{Noted}
-use Rattle.mints.specs.Pass.{handAt, stepAt, filledAt, passTo, Ran, passesFrom, differAt, doubtAt, doubtsTo}
+use Rattle.mints.specs.Pass.{handAt, stepAt, filledAt, passTo, passesFrom, differAt, doubtAt, doubtsTo}
 
 -- a transfer fills in at most one account
 pub one-filled : (t : List ℕ) (a b : ℕ) → filledAt t a b ≤ 1

@@ -1,27 +1,24 @@
 -- When all evidence is noted, the working table holds what is recorded, and the two lists are the plain transfers.
 -- Assumes nothing.
-use mathlib.Core.Path.{_≡_, refl, sym, ap, _∙_, subst}
-use mathlib.Core.List.{List, [], _++_}
-use Prim.Native.Nat.{ℕ, _/_, _≤_, _<_}
+use mathlib.Core.Path.{_≡_, refl, subst}
+use mathlib.Core.List.{List, []}
+use Prim.Native.Nat.{ℕ, _/_, _≤_}
 use native.Mathlib.Omega.{arith}
 use lib.ListN.{length, take, length-map, length-replicate}
 use lib.Seq.{take-all}
-use Rattle.wire.specs.Zeros.{zeros}
 use Rattle.ids.specs.Keys.{Key, keyCount, keyOf}
 use Rattle.ids.specs.Which.{programAt}
 use Rattle.pack.specs.Invocation.{Instruction, instructionAt}
 use Rattle.pack.specs.View.{balancesIn}
-use Rattle.evidence.specs.Table.{Table}
 use Rattle.evidence.specs.Evidence.{Evidence, noteAll, recorded}
 use Rattle.evidence.specs.Passes.{Transfers}
 use Rattle.evidence.specs.Gather.{gather}
 use Rattle.evidence.specs.Loops.{noteAll-append}
 use Rattle.mints.specs.Cells.{accountAt}
-use Rattle.mints.specs.Note.{Noted, balancesTo}
-use Rattle.mints.specs.Gather.{Gathered}
+use Rattle.mints.specs.Note.{balancesTo}
 use Rattle.mints.specs.Inference.{balanceSays, says, moves, evidenceOf, transfersOf}
 use Rattle.mints.specs.Prepare.{laidOf, begun, gatheredOf}
-use Rattle.mints.proofs.Laid.{zero-at, laid-apart, laid-holds}
+use Rattle.mints.proofs.Begun.{zero-at, laid-apart, laid-holds}
 use Rattle.mints.proofs.Holding.{Apart}
 use Rattle.mints.proofs.Stepped.{pairsTo}
 use Rattle.mints.proofs.Observed.{Notes, balances-many, balances-noted}

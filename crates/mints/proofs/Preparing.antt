@@ -1,7 +1,6 @@
 -- Laying, noting and listing, one after the other.
 -- Assumes nothing.
-use mathlib.Core.Path.{_≡_, refl, sym, ap, _∙_}
-use mathlib.Core.Bool.{cond}
+use mathlib.Core.Path.{_≡_}
 use mathlib.Core.List.{List}
 use Prim.Native.Nat.{ℕ, zero, suc, _+_, _*_, _/_, _≤_, _<_}
 use native.Mathlib.Omega.{arith}
@@ -9,15 +8,16 @@ use borrow.Author.Tests.{le-ltb}
 use lib.ListN.{length, getD, take, drop}
 use Rattle.wire.specs.Le.{le}
 use Rattle.wire.specs.Zeros.{zeros}
-use Rattle.ids.specs.Keys.{Key, zeroKey, keyCount, keyOf}
+use Rattle.ids.specs.Keys.{zeroKey, keyCount, keyOf}
 use Rattle.mints.specs.Cells.{accountAt, Fits}
-use Rattle.mints.specs.Lay.{Laid, laid}
-use Rattle.mints.specs.Note.{Noted, noteAt, balancesTo}
-use Rattle.mints.specs.Gather.{Gathered, gatherTo}
+use Rattle.mints.specs.Lay.{laid}
+use Rattle.mints.specs.Note.{noteAt, balancesTo}
+use Rattle.mints.specs.Gather.{gatherTo}
 use Rattle.mints.specs.Prepare.{laidOf, gatheredOf}
 use Rattle.mints.proofs.Search.{key-length}
 use Rattle.mints.proofs.Noting.{one-new}
-use Rattle.mints.proofs.Laid.{Rows, laid-rows, row-right}
+use Rattle.mints.proofs.Laid.{Rows}
+use Rattle.mints.proofs.Begun.{laid-rows, row-right}
 
 -- a key past the section is zero
 key-past : (ks : List ℕ) (j : ℕ) → keyCount ks ≤ j → keyOf ks j ≡ zeroKey

@@ -1,14 +1,14 @@
 -- Evidence: a note in a row is a piece of evidence for the row's account.
 -- Assumes nothing.
-use mathlib.Core.Path.{_≡_, refl, sym, ap, _∙_}
+use mathlib.Core.Path.{_≡_, refl, ap, _∙_}
 use mathlib.Core.Logic.{_≢_, by-cases}
-use mathlib.Core.Option.{Option, none, some}
-use mathlib.Core.List.{List, []}
+use mathlib.Core.Option.{none, some}
+use mathlib.Core.List.{List}
 use Prim.Native.Nat.{ℕ, zero, suc, _+_, _*_, _≤_, _<_}
 use native.Mathlib.Decide.{ℕ-discrete}
 use native.Mathlib.Omega.{arith}
 use lib.ListN.{length}
-use Rattle.wire.specs.Same.{same, same-eq, same-ne}
+use Rattle.wire.specs.Same.{same-eq, same-ne}
 use Rattle.ids.specs.Keys.{Key, zeroKey}
 use Rattle.evidence.specs.Keys.{key?}
 use Rattle.evidence.specs.Table.{Table, lookup}
@@ -18,8 +18,8 @@ use Rattle.evidence.specs.Lookups.{merge, note-here, note-other, note-first, no
 use Rattle.mints.specs.Cells.{mintAt, stateAt, held, withMint, withState}
 use Rattle.mints.specs.Note.{recordAt, newAt}
 use Rattle.mints.proofs.Noting as noting
-use Rattle.mints.proofs.Fields.{mint-here, states-here, state-here, mint-state}
-use Rattle.mints.proofs.Holding.{Apart, not-zero, Holds, Changed, unchanged, changed-state, changed-mint, update}
+use Rattle.mints.proofs.Fields.{mint-here, states-here, state-here}
+use Rattle.mints.proofs.Holding.{Apart, not-zero, Holds, unchanged, changed-state, changed-mint, update}
 
 module _ {n : ℕ} {α : ℕ → Key} (p : Apart n α) (w : List ℕ) (t : Table) (h : Holds 2 n α w t) (r : ℕ) (l : r < n) (m : Key) (e : length m ≡ 32) where
   -- what is to be shown, of the table and of the count

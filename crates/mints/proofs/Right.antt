@@ -1,31 +1,32 @@
 -- What the passes, the marks and the order come to is the mint table of the definitions.
 -- Assumes nothing.
-use mathlib.Core.Path.{_≡_, refl, sym, ap, _∙_, subst}
+use mathlib.Core.Path.{_≡_, refl, sym, _∙_, subst}
 use mathlib.Core.Logic.{_≢_}
 use mathlib.Core.Option.{Option, none, some}
-use mathlib.Core.List.{List, [], map}
+use mathlib.Core.List.{List, map}
 use Prim.Native.Nat.{ℕ, zero, suc, _≤_, _<_}
 use native.Mathlib.Omega.{arith}
-use lib.ListN.{length, getD, length-map}
-use Rattle.ids.specs.Keys.{Key, zeroKey}
-use Rattle.evidence.specs.Table.{Table, lookup}
+use lib.ListN.{length}
+use Rattle.ids.specs.Keys.{Key}
+use Rattle.evidence.specs.Table.{Table}
 use Rattle.evidence.specs.Evidence.{Evidence, recorded}
 use Rattle.evidence.specs.Passes.{Transfers}
 use Rattle.evidence.specs.Run.{Outcome}
 use Rattle.evidence.specs.Infer.{infer, infer-settled}
-use Rattle.evidence.specs.MintTable.{Answer, mintTable, mints}
+use Rattle.evidence.specs.MintTable.{Answer, mintIn, mints}
 use Rattle.evidence.specs.Loops.{mints-some, mints-none}
 use Rattle.mints.specs.Cells.{mintAt, stateAt, held}
 use Rattle.mints.specs.Gather.{Gathered}
 use Rattle.mints.specs.Pass.{Ran, passes, doubtsTo}
 use Rattle.mints.specs.Order.{sortTo, mintsTo}
-use Rattle.mints.specs.Bytes.{mintsOf}
-use Rattle.mints.proofs.Holding.{Apart, Holds, was, Was}
-use Rattle.mints.proofs.Stepped.{Held, pairsTo}
+use Rattle.mints.specs.Bytes.{orZero, mintsOf}
+use Rattle.mints.proofs.Holding.{Apart, Holds, was}
+use Rattle.mints.proofs.Stepped.{Held}
 use Rattle.mints.proofs.Runs.{Ended, done, over, ran}
 use Rattle.mints.proofs.Marked.{Marked, marks}
-use Rattle.mints.proofs.Written.{cell, table-right, mints-right}
-use Rattle.mints.proofs.Observed.{Notes, Indexed}
+use Rattle.mints.proofs.Written.{cell, table-right, mint-right, mints-right}
+use Rattle.mints.proofs.Writing.{mint-length}
+use Rattle.mints.proofs.Observed.{Indexed}
 use Rattle.mints.proofs.Collected.{Collected}
 
 -- before the passes what a row holds is recorded
@@ -62,7 +63,8 @@ module _ {n : ℕ} {α : ℕ → Key} (p : Apart n α) (e : Evidence) (ps : Tran
   pub data Right : Option Answer → Type 0 where
     too-many : over-all .passes ≡ 513 → Right none
     made : over-all .passes ≢ 513 → {y : Answer} → y .rows ≡ map (cell marked-all) (sortTo marked-all n) → y .room ≡ over-all .room → y .passes ≡ over-all .passes
-        → ((row : List ℕ) (κ : ℕ → Key) (c : ℕ) → Indexed n α κ row → mintsTo marked-all row c ≡ mintsOf (y .rows) κ c) → Right (some y)
+        → ((row : List ℕ) (κ : ℕ → Key) (c : ℕ) → Indexed n α κ row → mintsTo marked-all row c ≡ mintsOf (y .rows) κ c)
+        → ((r : ℕ) → r < n → length (orZero (mintIn (y .rows) (α r))) ≡ 32) → Right (some y)
 
   pub right : Right (mints 512 e ps)
   right = go (infer 512 e ps) refl ended
@@ -78,4 +80,5 @@ module _ {n : ℕ} {α : ℕ → Key} (p : Apart n α) (e : Evidence) (ps : Tran
           (sym (table-right p s held m))
           count
           (sym k-is)
-          (λ row κ c at. mints-right p s held m row κ c (λ i l. at i)))
+          (λ row κ c at. mints-right p s held m row κ c (λ i l. at i))
+          (λ r l. subst (λ (k : Key). length k ≡ 32) (mint-right p s held m r l) (mint-length marked-all r (rw (m .length) (omega (arith, held .now .long))))))

@@ -1,29 +1,26 @@
 -- Plain transfers: a step between two rows is a step between their accounts.
 -- Assumes nothing.
-use mathlib.Core.Path.{_≡_, refl, sym, ap, _∙_}
-use mathlib.Core.Logic.{_≢_, _⊎_, inl, inr, by-cases}
-use mathlib.Core.Bool.{true, false, _||_, or-true}
-use mathlib.Core.Option.{Option, none, some}
+use mathlib.Core.Path.{_≡_, refl, ap, _∙_}
+use mathlib.Core.Logic.{by-cases}
+use mathlib.Core.Bool.{or-true}
+use mathlib.Core.Option.{none, some}
 use mathlib.Core.List.{List, [], _∷_, _++_}
 use Prim.Native.Nat.{ℕ, zero, suc, _+_, _*_, _≤_, _<_}
 use native.Mathlib.Decide.{ℕ-discrete}
 use native.Mathlib.Omega.{arith}
-use lib.Dec.{eqb, ltb}
 use lib.ListN.{length, length-take, length-drop, getD}
-use borrow.Author.Tests.{eq-eqb, ne-eqb, lt-ltb, le-ltb}
-use Rattle.wire.specs.Same.{same, same-eq, same-ne}
+use Rattle.wire.specs.Same.{same-eq}
 use Rattle.ids.specs.Keys.{Key, zeroKey}
 use Rattle.evidence.specs.Keys.{isZero}
-use Rattle.evidence.specs.Table.{Row, Table, add, lookup}
+use Rattle.evidence.specs.Table.{Table, add, lookup}
 use Rattle.evidence.specs.Passes.{Transfers, step, pass, length-add}
 use Rattle.evidence.specs.Lookups.{add-here, add-other, step-zero, step-forth, step-back, step-known, step-unknown, step-ambiguous, step-ambiguous-back}
 use Rattle.evidence.specs.Loops.{pass-append}
-use Rattle.mints.specs.Cells.{mintAt, stateAt, held, withMint}
-use Rattle.mints.specs.Note.{Noted}
+use Rattle.mints.specs.Cells.{mintAt, stateAt, held}
 use Rattle.mints.specs.Pass.{handAt, stepAt, filledAt, passTo}
 use Rattle.mints.proofs.Passing as passing
 use Rattle.mints.proofs.Fields.{mint-here, states-here}
-use Rattle.mints.proofs.Holding.{Apart, not-zero, Holds, was, Was, Changed, changed-mint, update, keep}
+use Rattle.mints.proofs.Holding.{Apart, not-zero, Holds, was, Was, changed-mint, update, keep}
 
 -- the table holds t, and what is recorded is r₀
 pub record Held (n : ℕ) (α : ℕ → Key) (r₀ : Table) (w : List ℕ) (t : Table) : Type 0 where

@@ -1,28 +1,27 @@
 -- What the worker's calls ask, and what they come to.
 -- Assumes nothing.
-use mathlib.Core.Path.{_≡_, refl, sym, ap, _∙_, subst}
+use mathlib.Core.Path.{_≡_, refl, _∙_, subst}
 use mathlib.Core.Logic.{_≢_}
-use mathlib.Core.Option.{Option, none, some}
-use mathlib.Core.List.{List, map}
-use Prim.Native.Nat.{ℕ, zero, suc, _+_, _*_, _/_, _≤_, _<_}
+use mathlib.Core.Option.{Option, none}
+use mathlib.Core.List.{List}
+use Prim.Native.Nat.{ℕ, zero, suc, _+_, _*_, _/_, _≤_}
 use native.Mathlib.Omega.{arith}
 use lib.ListN.{length, getD, length-map}
-use Rattle.ids.specs.Keys.{Key, keyCount, keyOf}
+use Rattle.ids.specs.Keys.{keyCount, keyOf}
 use Rattle.pack.specs.Invocation.{instructionAt}
 use Rattle.evidence.specs.Evidence.{recorded}
-use Rattle.evidence.specs.MintTable.{Answer, mints}
-use Rattle.mints.specs.declared.Inferred.the-variants.{Made, TooManyPasses}
+use Rattle.evidence.specs.MintTable.{Answer}
+use Rattle.mints.specs.declared.Inferred.the-variants.{Made}
 use Rattle.mints.specs.Cells.{Fits}
-use Rattle.mints.specs.Note.{Noted}
 use Rattle.mints.specs.Gather.{tokenAt, Gathered, gatherAt, gatherTo}
 use Rattle.mints.specs.Prepare.{laidOf, begun, gatheredOf}
-use Rattle.mints.specs.Pass.{Ran, passes, doubtsTo}
+use Rattle.mints.specs.Pass.{passes, doubtsTo}
 use Rattle.mints.specs.Order.{sortTo, rowsBytes, mintsTo}
 use Rattle.mints.specs.Inference.{inferred, inferredIn, answerOf, rowsOf, finalOf}
 use Rattle.mints.proofs.Written.{cell, cells-bytes}
 use Rattle.mints.proofs.Collected.{Collected, count-bound}
 use Rattle.mints.proofs.Gathering.{two-more}
-use Rattle.mints.proofs.Preparing.{rows-laid, laid-index, balances-bound}
+use Rattle.mints.proofs.Preparing.{laid-index, balances-bound}
 use Rattle.mints.proofs.Prepared.{evidenceIn, transfersIn, accounts, apart, prepared}
 use Rattle.mints.proofs.Right.{Right, too-many, made, right}
 
@@ -68,7 +67,7 @@ module _ (ks b p o : List ℕ) (few : keyCount ks ≤ 256) (short : length o ≤
     where
       go : {y : Option Answer} → Right (apart ks b p o few short) (evidenceIn ks b p o few short) (transfersIn ks b p o few short) (record { noted = record { table = t; room = room }; from = f; to = g; count = count }) state y → y ≡ none
       go (too-many z) = refl
-      go (made n r m k l) = absurd (n q)
+      go (made n r m k l w) = absurd (n q)
 
   -- the mint table
   pub record Tables (x : Option Answer) : Type 0 where
@@ -82,7 +81,7 @@ module _ (ks b p o : List ℕ) (few : keyCount ks ≤ 256) (short : length o ≤
     where
       go : {y : Option Answer} → Right (apart ks b p o few short) (evidenceIn ks b p o few short) (transfersIn ks b p o few short) (record { noted = record { table = t; room = room }; from = f; to = g; count = count }) state y → Tables y
       go (too-many z) = absurd (q z)
-      go (made n r m k l) =
+      go (made n r m k l w) =
           let v = doubtsTo f g (passes f g count t room .table) count in
           record {
             answer = rw (m, k, r, length-map (sortTo v (laidOf ks .rows)) (cell v));

@@ -1,6 +1,6 @@
 -- How long rows and mints are as they are written, and one row more.
 -- Assumes nothing.
-use mathlib.Core.Path.{_≡_, refl, sym, ap, _∙_}
+use mathlib.Core.Path.{_≡_, refl}
 use mathlib.Core.Bool.{Bool, true, false, cond}
 use mathlib.Core.List.{List, [], _∷_, _++_, append-assoc, append-nil}
 use Prim.Native.Nat.{ℕ, zero, suc, _+_, _-_, _*_, _≤_, _<_}
@@ -12,11 +12,11 @@ use lib.Seq.{sets, take-suc, getD-take}
 use native.Mathlib.Decide.{decLt}
 use mathlib.Core.Logic.{by-cases}
 use Rattle.wire.specs.Sets.{sets-append}
-use Rattle.ids.specs.Keys.{Key, zeroKey}
+use Rattle.ids.specs.Keys.{zeroKey}
 use Rattle.mints.specs.Cells.{mintAt, stateAt, Fits}
 use Rattle.mints.specs.Order.{rowBytes, rowsBytes, mintOf, mintsTo}
 
-mint-length : (t : List ℕ) (r : ℕ) → r * 65 + 65 ≤ length t → length (mintOf t zeroKey r) ≡ 32
+pub mint-length : (t : List ℕ) (r : ℕ) → r * 65 + 65 ≤ length t → length (mintOf t zeroKey r) ≡ 32
 unfolding mintOf zeroKey
 mint-length t r h = go (ltb 1 (stateAt t r))
   where

@@ -1,17 +1,17 @@
 -- The rows that are written are those of the mint table, and the mints by key index are theirs.
 -- Assumes nothing.
-use mathlib.Core.Path.{_≡_, refl, sym, ap, _∙_, subst, Σ-path}
+use mathlib.Core.Path.{_≡_, refl, sym, ap, _∙_, subst}
 use mathlib.Core.Logic.{_≢_, by-cases}
 use mathlib.Core.Bool.{Bool, true, false, cond}
-use mathlib.Core.Option.{Option, none, some, Option·none-ne-some, Option·some-injective}
-use mathlib.Core.List.{List, [], _∷_, _++_, map, append-assoc, List·Memᴰ, Memᴰ·map, Memᴰ·of-map, Memᴰ·cast}
-use Prim.Native.Nat.{ℕ, zero, suc, _+_, _-_, _*_, _≤_, _<_}
+use mathlib.Core.Option.{none, some, Option·none-ne-some, Option·some-injective}
+use mathlib.Core.List.{List, [], _∷_, map, List·Memᴰ, Memᴰ·map, Memᴰ·of-map, Memᴰ·cast}
+use Prim.Native.Nat.{ℕ, zero, suc, _-_, _*_, _≤_, _<_}
 use native.Mathlib.Decide.{ℕ-discrete}
 use native.Mathlib.Omega.{arith}
 use lib.Dec.{ltb}
-use lib.ListN.{length, getD, take, drop}
+use lib.ListN.{length, getD, drop}
 use lib.Seq.{take-add, drop-drop}
-use borrow.Author.Tests.{lt-ltb, ltb-true, ltb-false}
+use borrow.Author.Tests.{lt-ltb, ltb-true}
 use Rattle.ids.specs.Keys.{Key, zeroKey}
 use Rattle.evidence.specs.Keys.{ltKey, Below, ltKey-true, ltKey-false}
 use Rattle.evidence.specs.Table.{Table, lookup}
@@ -28,9 +28,10 @@ use Rattle.mints.specs.Cells.{accountAt, mintAt, stateAt, held}
 use Rattle.mints.specs.Order.{spotIn, putIn, sortTo, rowBytes, rowsBytes, mintOf, mintsTo}
 use Rattle.mints.specs.Bytes.{tableBytes, orZero, mintsOf}
 use Rattle.mints.proofs.Sorting.{spot-bound, sorted-mem, mem-sorted, getD-mem}
-use Rattle.mints.proofs.Holding.{Apart, Holds, was, Was}
+use Rattle.mints.proofs.Holding.{Apart, was}
 use Rattle.mints.proofs.Stepped.{Held}
-use Rattle.mints.proofs.Marked.{marked, marked-filled, marked-other, marked-mint, Marked, final-row}
+use Rattle.mints.proofs.States.{marked-filled, marked-other, marked-mint}
+use Rattle.mints.proofs.Marked.{Marked, final-row}
 
 -- the rows before the place of a row do not have a greater account, and the row at the place does
 spot-before : (t : List ℕ) (r : ℕ) (l : List ℕ) (i : ℕ) → i < spotIn t r l → ltKey (accountAt t r) (accountAt t (getD l i 0)) ≡ false

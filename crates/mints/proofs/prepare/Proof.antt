@@ -1,11 +1,9 @@
 use Rattle.mints.proofs.Preparing.{laid-is, laid-fits, rows-laid, balances-bound, gathered-is}
 use Rattle.mints.specs.Lay.{Laid}
 use Rattle.mints.specs.Gather.{Gathers}
-use Rattle.mints.specs.Prepare.{laidOf}
-use Rattle.ids.specs.Keys.{keyCount}
 use lib.ListN.{length, length-replicate}
 use Prim.Native.Nat.{ℕ, _/_}
-use mathlib.Core.Path.{_≡_, refl, sym, ap, _∙_}
+use mathlib.Core.Path.{_≡_, sym, ap, _∙_}
 use native.Mathlib.Omega.{arith}
 use borrow.Author.Needs.{needs}
 use Rattle.mints.proofs.prepare.Statement.{statement}

@@ -1,7 +1,6 @@
 use Rattle.mints.proofs.Sorting.{sort-fits, sort-length}
-use Rattle.mints.specs.Order.{sortTo}
-use lib.ListN.{length, take}
-use mathlib.Core.Path.{_≡_, refl, sym, ap, _∙_}
+use lib.ListN.{length}
+use mathlib.Core.Path.{_≡_, _∙_}
 use native.Mathlib.Omega.{arith}
 use borrow.Author.Needs.{needs}
 use Rattle.mints.proofs.publish.Statement.{statement}

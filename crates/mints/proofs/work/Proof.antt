@@ -1,15 +1,12 @@
 use Rattle.mints.proofs.Preparing.{rows-laid, laid-fits}
-use Rattle.mints.proofs.Working.{sources-fit, targets-fit, counted, noted-few, none-right, Tables, some-right}
+use Rattle.mints.proofs.Working.{sources-fit, targets-fit, counted, noted-few, none-right, some-right}
 use Rattle.mints.specs.Cells.{Fits}
 use Rattle.mints.specs.Prepare.{laidOf}
 use Rattle.mints.specs.Pass.{passes, doubtsTo}
-use Rattle.mints.specs.Order.{sortTo, rowsBytes, mintsTo}
-use Rattle.mints.specs.Inference.{inferredIn, answerOf, rowsOf, finalOf}
-use Rattle.ids.specs.Keys.{keyCount, keyOf}
-use mathlib.Core.List.{List}
-use lib.Seq.{sets}
-use lib.ListN.{length, getD, length-replicate}
-use Prim.Native.Nat.{ℕ, _+_, _*_, _≤_}
+use Rattle.mints.specs.Inference.{answerOf, rowsOf, finalOf}
+use Rattle.ids.specs.Keys.{keyCount}
+use lib.ListN.{length, length-replicate}
+use Prim.Native.Nat.{ℕ, _≤_}
 use mathlib.Core.Path.{_≡_, refl, sym, ap, _∙_}
 use native.Mathlib.Omega.{arith}
 use borrow.Author.Needs.{needs}

@@ -5,8 +5,8 @@ use Rattle.ids.specs.Keys.{keyOf}
 use borrow.Author.Tests.{not-true, not-false}
 use denote.Ref.{now}
 use lib.ListN.{length, length-set}
-use Prim.Native.Nat.{ℕ, _+_, _*_, _-_, _≤_, _<_}
-use mathlib.Core.Path.{_≡_, refl, sym, ap, _∙_}
+use Prim.Native.Nat.{_+_, _*_, _-_, _≤_}
+use mathlib.Core.Path.{_≡_, refl, sym, _∙_}
 use native.Mathlib.Omega.{arith}
 use Rattle.mints.proofs.notes.gather.Statement.{statement}
 use Rattle.mints.proofs.notes.gather.Tie as tie

@@ -2,7 +2,7 @@ use Rattle.mints.specs.Cells.{withMint, withState}
 use Rattle.mints.proofs.Noting.{note-zero, note-first, note-ambiguous, note-again, note-other}
 use Rattle.ids.specs.Keys.{zeroKey}
 use native.Mathlib.Nat.{add-sub-cancel-left}
-use mathlib.Core.Path.{_≡_, refl, sym, ap, _∙_}
+use mathlib.Core.Path.{sym, _∙_}
 use borrow.Author.Needs.{needs}
 use Rattle.mints.proofs.notes.note.Statement.{statement}
 use Rattle.mints.proofs.notes.note.Tie as tie

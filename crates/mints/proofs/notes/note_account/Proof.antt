@@ -1,11 +1,11 @@
-use Rattle.mints.specs.Gather.{rowOf, noteAccount}
+use Rattle.mints.specs.Gather.{noteAccount}
 use Rattle.mints.specs.Note.{noteAt}
 use Rattle.mints.proofs.Noting.{one-new}
 use Rattle.mints.proofs.Search.{account-length, row-fits}
 use Rattle.ids.specs.Keys.{zeroKey}
 use lib.ListN.{length}
 use denote.Ref.{now}
-use mathlib.Core.Path.{_≡_, refl, sym, ap, _∙_}
+use mathlib.Core.Path.{refl, ap, _∙_}
 use native.Mathlib.Omega.{arith}
 use borrow.Author.Needs.{needs}
 use Rattle.mints.proofs.notes.note_account.Statement.{statement}

@@ -1,8 +1,7 @@
 use Rattle.mints.proofs.Noting.{one-new, balance-next}
 use Rattle.mints.specs.Note.{Noted, noteAt, balancesTo}
-use lib.ListN.{length, getD, take, drop, length-take, length-drop}
-use Prim.Native.Nat.{ℕ, _+_, _*_, _-_, _/_, _≤_, _<_}
-use native.Mathlib.Nat.{add-sub-cancel-left}
+use lib.ListN.{length, take, drop, length-take, length-drop}
+use Prim.Native.Nat.{_+_, _*_, _-_, _/_, _≤_}
 use mathlib.Core.Path.{_≡_, refl, sym, ap, _∙_}
 use native.Mathlib.Omega.{arith}
 use Rattle.mints.proofs.notes.note_balances.Statement.{statement}

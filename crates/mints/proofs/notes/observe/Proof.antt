@@ -2,7 +2,7 @@ use lib.ListN.{length}
 use Rattle.mints.specs.Gather.{observed}
 use Rattle.mints.proofs.Noting.{one-more}
 use Rattle.ids.specs.Keys.{keyOf}
-use mathlib.Core.Path.{_≡_, refl, sym, ap, _∙_}
+use mathlib.Core.Path.{_≡_, refl, _∙_}
 use native.Mathlib.Omega.{arith}
 use borrow.Author.Needs.{needs}
 use Rattle.mints.proofs.notes.observe.Statement.{statement}

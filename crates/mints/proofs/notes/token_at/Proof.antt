@@ -1,5 +1,4 @@
 use Rattle.mints.specs.Gather.{tokenAt}
-use Rattle.pack.specs.Invocation.{instructionAt}
 use borrow.Author.Needs.{needs}
 use Rattle.mints.proofs.notes.token_at.Statement.{statement}
 use Rattle.mints.proofs.notes.token_at.Tie as tie

@@ -1,8 +1,8 @@
 use Rattle.mints.proofs.Ordering.{shift-more, inserted}
 use lib.Seq.{sets}
 use lib.ListN.{length, take, drop, length-set}
-use Prim.Native.Nat.{ℕ, _+_, _-_, _≤_, _<_}
-use mathlib.Core.Path.{_≡_, refl, sym, _∙_}
+use Prim.Native.Nat.{_+_, _-_, _≤_}
+use mathlib.Core.Path.{_≡_, refl}
 use native.Mathlib.Omega.{arith}
 use Rattle.mints.proofs.order.insert.Statement.{statement}
 use Rattle.mints.proofs.order.insert.Tie as tie

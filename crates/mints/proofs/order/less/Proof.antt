@@ -4,7 +4,7 @@ use Rattle.mints.proofs.Ordering.{less-step, less-longer, less-end}
 use Rattle.evidence.specs.Keys.{ltKey}
 use lib.ListN.{length, drop}
 use borrow.Author.Tests.{lt-ltb, le-ltb, eq-eqb, ne-eqb}
-use Prim.Native.Nat.{ℕ, _+_, _-_, _≤_, _<_}
+use Prim.Native.Nat.{_-_, _≤_}
 use mathlib.Core.Path.{_≡_, refl, sym, _∙_}
 use native.Mathlib.Omega.{arith}
 use Rattle.mints.proofs.order.less.Statement.{statement}

@@ -1,7 +1,7 @@
 use Rattle.mints.proofs.Sorting.{spot-bound, put-length, sort-skip, sort-next, sort-fits}
-use Rattle.mints.specs.Order.{spotIn, putIn, sortTo}
+use Rattle.mints.specs.Order.{spotIn, sortTo}
 use lib.ListN.{length, take}
-use Prim.Native.Nat.{ℕ, suc, _+_, _*_, _-_, _≤_, _<_}
+use Prim.Native.Nat.{_-_, _≤_}
 use native.Mathlib.Numerals.{add-one}
 use mathlib.Core.Path.{_≡_, refl, sym, ap, _∙_}
 use native.Mathlib.Omega.{arith}

@@ -1,10 +1,10 @@
 use Rattle.mints.proofs.Sorting.{fit-at, spot-here, spot-skip, spot-end}
 use Rattle.mints.specs.Order.{spotIn}
 use lib.Seq.{getD-take, length-take-le}
-use lib.ListN.{length, getD, take, drop}
-use Prim.Native.Nat.{ℕ, _+_, _*_, _-_, _≤_, _<_}
+use lib.ListN.{take, drop}
+use Prim.Native.Nat.{_+_, _*_, _-_, _≤_}
 use native.Mathlib.Nat.{zero-add, add-sub-cancel-left}
-use mathlib.Core.Path.{_≡_, refl, sym, ap, _∙_}
+use mathlib.Core.Path.{_≡_, refl, sym, _∙_}
 use native.Mathlib.Omega.{arith}
 use Rattle.mints.proofs.order.spot.Statement.{statement}
 use Rattle.mints.proofs.order.spot.Tie as tie

@@ -4,10 +4,9 @@ use Rattle.ids.specs.Keys.{zeroKey}
 use Rattle.wire.specs.Sets.{sets-next}
 use lib.Seq.{sets}
 use lib.ListN.{length, getD}
-use Prim.Native.Nat.{ℕ, _+_, _*_, _-_, _≤_, _<_}
-use native.Mathlib.Nat.{zero-add}
+use Prim.Native.Nat.{_*_, _-_, _≤_}
 use native.Mathlib.Numerals.{add-one}
-use mathlib.Core.Path.{_≡_, refl, sym, ap, _∙_}
+use mathlib.Core.Path.{_≡_, refl, _∙_}
 use native.Mathlib.Omega.{arith}
 use Rattle.mints.proofs.order.write_mints.Statement.{statement}
 use Rattle.mints.proofs.order.write_mints.Tie as tie

@@ -3,10 +3,10 @@ use Rattle.mints.proofs.Writing.{rows-length, rows-next, fits-take, row
 use Rattle.mints.specs.Order.{rowBytes, rowsBytes}
 use Rattle.wire.specs.Sets.{sets-next}
 use lib.Seq.{sets, length-take-le}
-use lib.ListN.{length, getD, take, drop}
-use Prim.Native.Nat.{ℕ, _+_, _*_, _-_, _≤_, _<_}
+use lib.ListN.{length, getD, take}
+use Prim.Native.Nat.{_*_, _-_, _≤_}
 use native.Mathlib.Nat.{add-sub-cancel-left}
-use mathlib.Core.Path.{_≡_, refl, sym, ap, _∙_}
+use mathlib.Core.Path.{_≡_, refl, _∙_}
 use native.Mathlib.Omega.{arith}
 use Rattle.mints.proofs.order.write_rows.Statement.{statement}
 use Rattle.mints.proofs.order.write_rows.Tie as tie

@@ -1,9 +1,9 @@
 use borrow.Author.Tests.{not-true, not-false}
 use Rattle.mints.proofs.Passing.{doubt-skip, doubt-both}
-use Rattle.mints.specs.Pass.{differAt, doubtAt, doubtsTo}
-use lib.ListN.{length, getD}
-use Prim.Native.Nat.{ℕ, _+_, _*_, _-_, _≤_, _<_}
-use mathlib.Core.Path.{_≡_, refl, sym, ap, _∙_}
+use Rattle.mints.specs.Pass.{doubtsTo}
+use lib.ListN.{length}
+use Prim.Native.Nat.{_-_, _≤_}
+use mathlib.Core.Path.{_≡_, refl, sym, _∙_}
 use native.Mathlib.Omega.{arith}
 use Rattle.mints.proofs.pass.doubts.Statement.{statement}
 use Rattle.mints.proofs.pass.doubts.Tie as tie

@@ -1,9 +1,9 @@
-use Rattle.mints.specs.Cells.{mintAt, withMint}
+use Rattle.mints.specs.Cells.{withMint}
 use Rattle.mints.proofs.Copying.{copy-more}
 use lib.Seq.{sets}
 use lib.ListN.{length, take, drop, length-set}
-use Prim.Native.Nat.{ℕ, _+_, _*_, _-_, _≤_, _<_}
-use mathlib.Core.Path.{_≡_, refl, _∙_}
+use Prim.Native.Nat.{_+_, _*_, _-_, _≤_}
+use mathlib.Core.Path.{_≡_, refl}
 use native.Mathlib.Omega.{arith}
 use Rattle.mints.proofs.pass.hand.Statement.{statement}
 use Rattle.mints.proofs.pass.hand.Tie as tie

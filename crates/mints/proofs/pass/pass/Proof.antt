@@ -2,7 +2,7 @@ use Rattle.mints.proofs.Passing.{one-filled, pass-next}
 use Rattle.mints.specs.Note.{Noted}
 use Rattle.mints.specs.Pass.{passTo}
 use lib.ListN.{length, getD}
-use Prim.Native.Nat.{ℕ, _+_, _*_, _-_, _≤_, _<_}
+use Prim.Native.Nat.{_-_, _≤_}
 use mathlib.Core.Path.{_≡_, refl, sym, ap, _∙_}
 use native.Mathlib.Omega.{arith}
 use Rattle.mints.proofs.pass.pass.Statement.{statement}

@@ -1,8 +1,8 @@
 use Rattle.mints.proofs.Passing.{filled-bound, passes-last, passes-next, passes-over}
-use Rattle.mints.specs.Pass.{passTo, Ran, passesFrom, passes}
+use Rattle.mints.specs.Pass.{Ran, passesFrom, passes}
 use borrow.Author.Tests.{eq-eqb, ne-eqb}
-use lib.ListN.{length, getD}
-use Prim.Native.Nat.{ℕ, _+_, _*_, _-_, _≤_, _<_}
+use lib.ListN.{length}
+use Prim.Native.Nat.{_+_, _*_, _-_, _≤_}
 use mathlib.Core.Path.{_≡_, refl, sym, ap, _∙_}
 use native.Mathlib.Omega.{arith}
 use Rattle.mints.proofs.pass.run.Statement.{statement}

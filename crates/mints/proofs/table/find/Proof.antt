@@ -1,7 +1,7 @@
 use native.Mathlib.Nat.{sub-zero}
 use Rattle.mints.proofs.Search.{account-is, account-not, skip, found, ended}
 use Rattle.mints.specs.Cells.{firstFrom}
-use lib.ListN.{length, getD}
+use lib.ListN.{getD}
 use Prim.Native.Nat.{ℕ, _+_, _*_, _-_, _≤_, _<_}
 use mathlib.Core.Path.{_≡_, refl, sym, _∙_}
 use borrow.Author.Count.{below-more, below-none}

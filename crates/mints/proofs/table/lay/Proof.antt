@@ -1,13 +1,12 @@
 use Rattle.mints.proofs.Search.{within, key-length}
 use Rattle.mints.proofs.Laying.{lay-next, one-row}
 use denote.Ref.{now}
-use Rattle.mints.specs.Cells.{withState, firstFrom}
-use Rattle.mints.specs.Lay.{Laid, layAt, layKey, layTo}
-use Rattle.ids.specs.Keys.{zeroKey, keyAt, keyCount, keyOf}
+use Rattle.mints.specs.Cells.{withState}
+use Rattle.mints.specs.Lay.{Laid, layTo}
+use Rattle.ids.specs.Keys.{zeroKey, keyCount, keyOf}
 use lib.ListN.{length, set, length-set}
-use Prim.Native.Nat.{ℕ, suc, _+_, _*_, _-_, _≤_, _<_}
+use Prim.Native.Nat.{suc, _*_, _-_, _≤_}
 use mathlib.Core.Path.{_≡_, refl, sym, ap, _∙_}
-use native.Mathlib.Numerals.{add-one}
 use native.Mathlib.Omega.{arith}
 use Rattle.mints.proofs.table.lay.Statement.{statement}
 use Rattle.mints.proofs.table.lay.Tie as tie
@@ -18,7 +17,7 @@ use Rattle.mints.proofs.table.add.Reads as add-reads
 use Rattle.mints.proofs.table.find.Reads as find-reads
 
 abbrev Inv-loop : tie.InvT-loop
-Inv-loop keys table₀ row₀ blank rows₀ i₀ table row rows i = (i ≤ keyCount keys) × (length table ≡ length table₀) × (length row ≡ length row₀) × (rows ≤ suc i) × (layTo (keyOf keys) table₀ row₀ i ≡ record { table = table; row = row; rows = rows })
+Inv-loop keys table₀ row₀ blank rows₀ i₀ table row rows i = (i ≤ keyCount keys) × (length table ≡ length table₀) × (length row ≡ length row₀) × (rows ≤ suc i) × (suc (keyCount keys) * 65 ≤ length table) × (layTo (keyOf keys) table₀ row₀ i ≡ record { table = table; row = row; rows = rows })
 
 abbrev μ-loop : tie.MeasureT-loop
 μ-loop keys table₀ row₀ blank rows₀ i₀ table row rows i = keyCount keys - i
@@ -30,7 +29,7 @@ slice-write-table c = omega arith
 -- src/table.rt:59:5
 loop-holds : tie.Need-loop-holds Inv-loop μ-loop
 unfolding layTo zeroKey
-loop-holds c = (omega arith, refl, refl, omega arith, refl)
+loop-holds c = (omega arith, refl, refl, omega arith, simp length-set (omega arith), refl)
 
 -- src/table.rt:60:34
 slice-aggregate-key : tie.Need-slice-aggregate-key Inv-loop μ-loop
@@ -46,11 +45,11 @@ unfolding zeroKey
 find-requires c κs =
     let l = c .before .before .before .before .loop in
     let a = c .before .before .before .before .before .before .before .before .args in
-    (ap length (c .before .key .ensures) ∙ key-length (a .keys .now) (l .i), omega (arith, length-set (a .table .now) 64 1))
+    (ap length (c .before .key .ensures) ∙ key-length (a .keys .now) (l .i), omega arith)
 
 -- src/table.rt:62:9
 add-requires : tie.Need-add-requires Inv-loop μ-loop
-add-requires c κs = omega (arith, length-set (c .before .before .before .before .before .before .before .before .before .before .args .table .now) 64 1)
+add-requires c κs = omega arith
 
 -- src/table.rt:63:18
 cast-row : tie.Need-cast-row Inv-loop μ-loop
@@ -80,17 +79,19 @@ unfolding zeroKey
 loop-again c =
     let l = c .before .before .before .before .before .before .before .before .before .loop in
     let a = c .before .before .before .before .before .before .before .before .before .before .before .before .before .args in
-    let q = c .before .before .add .ensures in (
+    let q = c .before .before .add .ensures in
+    let k : length (c .before .before .add .last .0) ≡ length (l .table) = c .before .before .add .kept .0 in (
       omega arith,
-      c .before .before .add .kept .0 ∙ l .inv .1,
+      k ∙ l .inv .1,
       simp length-set (l .inv .2),
       omega (arith, q .1, one-row (c .before .before .before .before .find .result) (l .rows)),
-      lay-next (keyOf (a .keys .now)) (set (a .table .now) 64 1) (a .row .now) (l .i) (record { table = l .table; row = l .row; rows = l .rows }) (l .inv .4) (c .before .before .before .before .before .before .key .ensures) (c .before .before .before .before .find .ensures) (q .0) (q .1),
+      omega (arith, k, l .inv .4),
+      lay-next (keyOf (a .keys .now)) _ (a .row .now) (l .i) (record { table = l .table; row = l .row; rows = l .rows }) (l .inv .5) (c .before .before .before .before .before .before .key .ensures) (c .before .before .before .before .find .ensures) (q .0) (q .1),
     )
 
 -- src/table.rt:51:1
 same-length : tie.Need-same-length Inv-loop μ-loop
-same-length c = c .before .loop .inv .1 ∙ length-set (c .before .before .before .before .before .args .table .now) 64 1
+same-length c = simp length-set at (c .before .loop .inv .1)
 
 -- src/table.rt:51:1
 same-length-2 : tie.Need-same-length-2 Inv-loop μ-loop
@@ -103,7 +104,7 @@ returns c =
     let l = c .before .loop in
     let a = c .before .before .before .before .before .args in
     let n : l .i ≡ keyCount (a .keys .now) = omega arith in
-    let e = rw n at (l .inv .4) in
+    let e = rw n at (l .inv .5) in
     (sym (ap (λ (x : Laid). x .table) e), sym (ap (λ (x : Laid). x .row) e), sym (ap (λ (x : Laid). x .rows) e))
 
 pub lay-spec : {M : Type 1} → statement M
