@@ -4,11 +4,11 @@ use mathlib.Core.Path.{_≡_, refl, sym, ap, _∙_}
 use mathlib.Core.Bool.{Bool, true, false, cond}
 use mathlib.Core.List.{List, [], _∷_, _++_, map, map-append}
 use mathlib.Core.Logic.{⊎-elim}
-use Prim.Native.Nat.{ℕ, zero, suc, _+_, _-_, _≤_, _<_}
+use Prim.Native.Nat.{ℕ, suc, _+_, _-_, _≤_, _<_}
 use native.Mathlib.Nat.{eq-or-lt-of-le}
 use native.Mathlib.Numerals.{add-one}
 use native.Mathlib.Omega.{arith}
-use borrow.Author.Tests.{eq-eqb, ne-eqb, eqb-true, eqb-false}
+use borrow.Author.Tests.{ne-eqb, eqb-true, eqb-false}
 use lib.Dec.{eqb}
 use lib.ListN.{length, getD, drop, set, length-map, length-drop}
 use lib.Seq.{sets, drop-cons, drop-drop, getD-drop, getD-set-same, getD-set-other}
@@ -87,7 +87,7 @@ module _ (s : List ℕ) (base i : ℕ) where
       go false q r = r q
 
   -- the next one stands d places further
-  pub next-own : (gs : List ℕ) (k m : ℕ) → firstFrom s i k gs ≡ suc m
+  next-own : (gs : List ℕ) (k m : ℕ) → firstFrom s i k gs ≡ suc m
       → (d : ℕ) × (m ≡ k + d) × (d < length gs) × (le 4 s (getD gs d 0) ≡ i) × (own gs ≡ items (getD gs d 0) ++ own (drop (suc d) gs))
   unfolding firstFrom inside groupAt
   next-own [] k m e = absurd (omega arith)
@@ -99,15 +99,19 @@ module _ (s : List ℕ) (base i : ℕ) where
       go true q x r = (0, omega arith, omega arith, eqb-true (le 4 s g) i q, refl)
       go false q x r = let y = r x in (suc (y .0), omega (arith, y .1), omega (arith, y .2), y .3, y .4)
 
-  -- the same, from place t of the groups on
-  pub next-from : (gs : List ℕ) (t m : ℕ) → firstFrom s i t (drop t gs) ≡ suc m
-      → (t ≤ m) × (m < length gs) × (le 4 s (getD gs m 0) ≡ i) × (own (drop t gs) ≡ items (getD gs m 0) ++ own (drop (m + 1) gs))
-  next-from gs t m e =
-      let y = next-own (drop t gs) t m e in
-      let p : getD (drop t gs) (y .0) 0 ≡ getD gs m 0 = getD-drop t gs (y .0) 0 ∙ ap (λ (k : ℕ). getD gs k 0) (sym (y .1)) in
-      let z : t + suc (y .0) ≡ m + 1 = omega (arith, y .1) in
-      let q : drop (suc (y .0)) (drop t gs) ≡ drop (m + 1) gs = drop-drop (suc (y .0)) t gs ∙ ap (λ (k : ℕ). drop k gs) z in
-      (omega (arith, y .1), omega (arith, y .1, y .2, length-drop t gs), rw (← p) (y .3), y .4 ∙ rw (p, q))
+-- the groups of outer i from place t on begin with group m
+pub record Found (s : List ℕ) (base i : ℕ) (gs : List ℕ) (t m : ℕ) : Type 0 where
+  pub in-list : m < length gs
+  pub names : le 4 s (getD gs m 0) ≡ i
+  pub splits : own s base i (drop t gs) ≡ items s base i (getD gs m 0) ++ own s base i (drop (m + 1) gs)
+
+pub found-at : (s : List ℕ) (base i : ℕ) (gs : List ℕ) (t m : ℕ) → firstFrom s i t (drop t gs) ≡ suc m → Found s base i gs t m
+found-at s base i gs t m e =
+    let y = next-own s base i (drop t gs) t m e in
+    let p : getD (drop t gs) (y .0) 0 ≡ getD gs m 0 = getD-drop t gs (y .0) 0 ∙ ap (λ (k : ℕ). getD gs k 0) (sym (y .1)) in
+    let z : t + suc (y .0) ≡ m + 1 = omega (arith, y .1) in
+    let q : drop (suc (y .0)) (drop t gs) ≡ drop (m + 1) gs = drop-drop (suc (y .0)) t gs ∙ ap (λ (k : ℕ). drop k gs) z in
+    record { in-list = omega (arith, y .1, y .2, length-drop t gs); names = rw (← p) (y .3); splits = y .4 ∙ rw (p, q) }
 
 -- how far the walk along a chain has to go
 abbrev pub ahead : ℕ → ℕ

@@ -11,17 +11,16 @@ use borrow.Author.Tests.{leb-true}
 use lib.Dec.{leb, eqb}
 use lib.ListN.{length, getD, length-map, length-replicate}
 use lib.Seq.{sets}
-use Rattle.wire.specs.Le.{le}
 use Rattle.wire.specs.Zeros.{zeros}
 use Rattle.wire.specs.Below.{and-left, and-right}
-use Rattle.pack.specs.Invocation.{Instruction, Position, Invocation, instructionAt, lowered, positionAt}
+use Rattle.pack.specs.Invocation.{Position, Invocation, instructionAt, lowered, positionAt}
 use Rattle.pack.specs.Group.{Group}
 use Rattle.pack.specs.Sections.{startOf, sectionOf}
 use Rattle.pack.specs.Items.{itemEnd, outersAt, outersWhole, heightGood, innersGood, innersFrom, countAt, groupGood, groupAt, groupsAt, groupsWhole}
 use Rattle.pack.specs.View.{outerIn, groupsIn, viewOf}
 use Rattle.pack.specs.Flatten.{numbered, inside, outermost, flattenFrom, invocation, flatten}
 use Rattle.pack.specs.Verdict.{numberOf, verdict}
-use Rattle.pack.specs.Layout.{layout, spreadOf, placedAt, raised, atOf, outerOf, innerOf, heightOf, Wrote, Flattened}
+use Rattle.pack.specs.Layout.{layout, spreadOf, placedAt, raised, atOf, outerOf, innerOf, heightOf, Flattened}
 use Rattle.pack.proofs.Parts.{at-map}
 use Rattle.pack.proofs.Slices.{slice, instruction-in}
 use Rattle.pack.proofs.Good.{passed, section-is}

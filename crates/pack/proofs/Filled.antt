@@ -1,19 +1,18 @@
 -- The arrays on the way to the invocations of a pack that no refusal meets: what each holds, and that it has room.
 -- s and g are the pack's sections 2 and 3, o is the number of its outer instructions.
 -- Assumes nothing.
-use mathlib.Core.Path.{_≡_, refl, sym, ap, _∙_}
+use mathlib.Core.Path.{_≡_, ap}
 use mathlib.Core.Bool.{true}
 use mathlib.Core.List.{List, [], map}
-use Prim.Native.Nat.{ℕ, suc, _+_, _-_, _≤_, _<_}
-use native.Mathlib.Nat.{le-trans}
+use Prim.Native.Nat.{ℕ, suc, _+_, _≤_, _<_}
 use native.Mathlib.Omega.{arith}
 use borrow.Author.Tests.{eq-eqb, ne-eqb}
-use lib.ListN.{length, getD, take, drop, length-map}
+use lib.ListN.{length, getD, take, length-map}
 use lib.Seq.{sets}
 use Rattle.wire.specs.Le.{le}
 use Rattle.pack.specs.Invocation.{instructionAt}
 use Rattle.pack.specs.Sections.{startOf, sectionOf}
-use Rattle.pack.specs.Items.{itemEnd, outersAt, outersWhole, countAt, groupEnd, groupGood, groupAt, groupsAt, groupsWhole}
+use Rattle.pack.specs.Items.{itemEnd, outersAt, outersWhole, groupGood, groupAt, groupsAt, groupsWhole}
 use Rattle.pack.specs.View.{outerIn, groupsIn}
 use Rattle.pack.specs.Flatten.{keptIn}
 use Rattle.pack.specs.Verdict.{numberOf, verdict}
@@ -21,7 +20,7 @@ use Rattle.pack.specs.Layout.{layout, spreadOf, placedAt, keptAt, firstF
 use Rattle.pack.proofs.Counting.{all-length}
 use Rattle.pack.proofs.Sizes.{invocations-length}
 use Rattle.pack.proofs.Places.{group-inside}
-use Rattle.pack.proofs.Good.{passed, size-of, start-le, end-le, section-ends}
+use Rattle.pack.proofs.Good.{passed, size-of, end-le, section-ends}
 use Rattle.pack.proofs.Kept.{Each, each-at, outers-each, groups-each, kept-each, kept-few, kept-all, kept-given, laid, laid-at}
 
 module _ (p s g : List ℕ) (o : ℕ) (e : numberOf (verdict p) ≡ 0) (is-s : s ≡ sectionOf p 2) (is-g : g ≡ sectionOf p 3) (is-o : o ≡ length (outersAt s)) where

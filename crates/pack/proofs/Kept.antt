@@ -2,23 +2,21 @@
 -- Assumes nothing.
 use mathlib.Core.Path.{_≡_, refl, sym, ap, _∙_}
 use mathlib.Core.Bool.{Bool, true, false, cond, _&&_}
-use mathlib.Core.List.{List, [], _∷_, _++_, map}
-use Prim.Native.Nat.{ℕ, zero, suc, _+_, _-_, _*_, _≤_, _<_}
+use mathlib.Core.List.{List, [], _∷_, map}
+use Prim.Native.Nat.{ℕ, zero, suc, _+_, _≤_, _<_}
 use native.Mathlib.Nat.{zero-add}
 use native.Mathlib.Omega.{arith}
-use borrow.Author.Tests.{lt-ltb, le-ltb, ltb-true, ltb-false, leb-true, eqb-true, eqb-false, ne-eqb}
+use borrow.Author.Tests.{ltb-true, ltb-false, leb-true, ne-eqb}
 use lib.Dec.{leb, ltb, eqb}
 use lib.ListN.{length, getD, take, drop}
 use lib.Seq.{sets, sets-eq, take-at}
 use Rattle.wire.specs.Sets.{sets-in}
 use Rattle.wire.specs.Le.{le}
 use Rattle.wire.specs.Below.{and-left, and-right}
-use Rattle.pack.specs.Invocation.{Position}
 use Rattle.pack.specs.Items.{itemEnd, outersFrom, outersFill, innersFrom, countAt, groupEnd, groupGood, groupAt, groupsFrom, groupsFill}
 use Rattle.pack.specs.Flatten.{numbered, inside, keptIn}
 use Rattle.pack.specs.Layout.{keeps, keptFrom}
 use Rattle.pack.proofs.Walk.{inners-length}
-use Rattle.pack.proofs.Places.{group-inside}
 
 -- each of a list's members
 abbrev pub Each : (ℕ → Type 0) → List ℕ → Type 0

@@ -1,7 +1,7 @@
 -- One step of the walks that write places into arrays: what writing the rest from here leaves is what it left before.
 -- Assumes nothing.
 use mathlib.Core.Path.{_≡_, refl, sym, ap, _∙_}
-use mathlib.Core.Bool.{Bool, true, false, cond, _&&_}
+use mathlib.Core.Bool.{true, false, _&&_}
 use mathlib.Core.List.{List, [], _∷_, map}
 use mathlib.Core.Option.{some}
 use Prim.Native.Nat.{ℕ, zero, suc, _+_, _-_, _*_, _≤_, _<_}
@@ -56,21 +56,32 @@ group-inside s at e =
     let h : at + 6 ≤ length s = leb-true _ _ (and-left (leb (at + 6) (length s)) (innersGood s (countAt s at) (at + 6)) e) in
     (h, inners-inside s (countAt s at) (at + 6) h (and-right (leb (at + 6) (length s)) (innersGood s (countAt s at) (at + 6)) e), group-grows s at)
 
--- groups of section 3
-module _ (s : List ℕ) (f g at : ℕ) (next : f ≡ suc g) where
-  pub groups-next : at < length s → groupsFill s f at ≡ true → (groupGood s at ≡ true) × (groupsFill s g (groupEnd s at) ≡ true)
-  unfolding groupsFill
-  groups-next h e =
-      let w : (groupGood s at && groupsFill s g (groupEnd s at)) ≡ true = rw (next, lt-ltb at (length s) h) at e in
-      (and-left (groupGood s at) (groupsFill s g (groupEnd s at)) w, and-right (groupGood s at) (groupsFill s g (groupEnd s at)) w)
+-- the group at `at` comes next, f bounding how many are left: it lies in the section, and the rest follows it
+pub record Next (s : List ℕ) (f at : ℕ) : Type 0 where
+  pub header : at + 6 ≤ length s
+  pub grows : at + 6 ≤ groupEnd s at
+  pub end : groupEnd s at ≤ length s
+  pub fill : groupsFill s (f - 1) (groupEnd s at) ≡ true
+  pub cons : groupsFrom s f at ≡ at ∷ groupsFrom s (f - 1) (groupEnd s at)
 
-  pub groups-cons : at < length s → groupsFrom s f at ≡ at ∷ groupsFrom s g (groupEnd s at)
-  unfolding groupsFrom
-  groups-cons h = rw (next, lt-ltb at (length s) h)
+module _ (s : List ℕ) (at : ℕ) where
+  next-suc : (g : ℕ) → at < length s → groupsFill s (suc g) at ≡ true → (groupGood s at ≡ true) × (groupsFill s g (groupEnd s at) ≡ true) × (groupsFrom s (suc g) at ≡ at ∷ groupsFrom s g (groupEnd s at))
+  unfolding groupsFill groupsFrom
+  next-suc g h e =
+      let w : (groupGood s at && groupsFill s g (groupEnd s at)) ≡ true = rw (lt-ltb at (length s) h) at e in
+      (and-left (groupGood s at) (groupsFill s g (groupEnd s at)) w, and-right (groupGood s at) (groupsFill s g (groupEnd s at)) w, rw (lt-ltb at (length s) h))
 
-  pub groups-nil : length s ≤ at → groupsFrom s f at ≡ []
+  pub next-group : (f : ℕ) → length s - at < f → at < length s → groupsFill s f at ≡ true → Next s f at
+  next-group f l h e =
+      let z : f ≡ suc (f - 1) = omega arith in
+      let w = next-suc (f - 1) h (ap (λ (k : ℕ). groupsFill s k at) (sym z) ∙ e) in
+      let i = group-inside s at (w .0) in
+      record { header = i .0; grows = omega (arith, i .2); end = i .1; fill = w .1; cons = ap (λ (k : ℕ). groupsFrom s k at) z ∙ w .2 }
+
+  pub groups-nil : (f : ℕ) → length s ≤ at → groupsFrom s f at ≡ []
   unfolding groupsFrom
-  groups-nil h = rw (next, le-ltb at (length s) h)
+  groups-nil zero h = refl
+  groups-nil (suc f) h = rw (le-ltb at (length s) h)
 
 -- one of them is remembered, or not
 module _ (s : List ℕ) (o g : ℕ) (gs : List ℕ) where

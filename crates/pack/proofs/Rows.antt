@@ -2,22 +2,20 @@
 -- Assumes nothing.
 use mathlib.Core.Path.{_≡_, refl, sym, ap, _∙_}
 use mathlib.Core.Bool.{Bool, true, false, cond, _&&_}
-use mathlib.Core.List.{List, [], _∷_, map}
+use mathlib.Core.List.{List, [], map}
 use Prim.Native.Nat.{ℕ, zero, suc, _+_, _*_, _/_, _≤_, _<_}
 use native.Mathlib.Nat.{zero-mul, suc-mul, add-comm, add-zero}
 use native.Mathlib.Omega.{arith}
-use borrow.Author.Tests.{lt-ltb, le-ltb, ltb-true, ltb-false}
+use borrow.Author.Tests.{ltb-true, ltb-false}
 use lib.Dec.{ltb, eqb}
 use lib.ListN.{length, getD, take, drop, length-map, length-take, length-drop, List·getD-eq-default}
 use lib.Seq.{drop-drop, getD-take, getD-drop}
 use Rattle.wire.specs.Le.{le}
-use Rattle.ids.specs.Keys.{Key, zeroKey, keyCount, keyOf}
+use Rattle.ids.specs.Keys.{Key, zeroKey, keyOf}
 use Rattle.ids.specs.Which.{which, programAt}
-use Rattle.ids.specs.declared.Id.{Id}
 use Rattle.ids.specs.declared.Id.the-variants.{Unresolved}
-use Rattle.pack.specs.Sections.{sectionOf}
 use Rattle.pack.specs.Items.{rows}
-use Rattle.pack.specs.View.{keysIn, balancesIn, poolsIn, viewOf, keyIn, programIn}
+use Rattle.pack.specs.View.{keysIn, balancesIn, poolsIn, keyIn, programIn}
 use Rattle.pack.proofs.Parts.{drop-part, at-map}
 use Rattle.pack.proofs.Sizes.{rows-length, key-rows}
 use Rattle.pack.proofs.Slices.{le-in}

@@ -1,18 +1,17 @@
 -- The original's walk over sorted groups gives the same invocations as a scan for each outer index: sorting keeps the order among groups of one index, and
 -- in sorted groups the cursor passes all that an outer instruction holds, and nothing that a later one does.
 -- Assumes nothing.
-use mathlib.Core.Path.{_≡_, refl, sym, ap, _∙_}
-use mathlib.Core.Bool.{Bool, true, false, cond, _&&_}
+use mathlib.Core.Path.{_≡_, refl, sym, _∙_}
+use mathlib.Core.Bool.{Bool, true, false, cond}
 use mathlib.Core.List.{List, [], _∷_, _++_, map}
-use Prim.Native.Nat.{ℕ, zero, suc, _≤_, _<_}
+use Prim.Native.Nat.{ℕ, suc, _≤_, _<_}
 use native.Mathlib.Nat.{le-trans}
 use native.Mathlib.Omega.{arith}
-use borrow.Author.Tests.{leb-true, leb-false, le-leb, lt-leb, eqb-true, eqb-false, ne-eqb}
+use borrow.Author.Tests.{leb-true, leb-false, eqb-true, ne-eqb}
 use lib.Dec.{leb, eqb}
-use Rattle.pack.specs.Invocation.{Position}
 use Rattle.pack.specs.Group.{Group}
 use Rattle.pack.specs.View.{View}
-use Rattle.pack.specs.Flatten.{numbered, inside, outermost, flattenFrom, invocation, flatten}
+use Rattle.pack.specs.Flatten.{numbered, inside, flattenFrom, invocation, flatten}
 use Rattle.pack.specs.Sorted.{inOrder, insert, sorted, groupOrder, taken, passed, walkFrom}
 use Rattle.wire.specs.Below.{and-left, and-right}
 

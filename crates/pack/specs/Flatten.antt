@@ -1,6 +1,6 @@
 -- Instructions in the order in which they were run: the Rust's `transaction_invocations`, groups taken by a scan for each outer index.
 -- Assumes nothing.
-use Prim.Native.Nat.{ℕ, zero, suc, _+_}
+use Prim.Native.Nat.{ℕ, suc, _+_}
 use mathlib.Core.Bool.{cond}
 use mathlib.Core.List.{List, [], _∷_, _++_, map}
 use mathlib.Core.Option.{Option, none, some}

@@ -6,8 +6,13 @@ pub mod Acting
 pub mod Legging
 pub mod Fitting
 pub mod Assembled
+pub mod Finishing
 pub mod OrderKeys
 pub mod OrderTable
 pub mod OrderMints
 pub mod OrderWays
 pub mod Order
+pub mod Inferring
+pub mod Filling
+pub mod Success
+pub mod Called

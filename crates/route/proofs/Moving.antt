@@ -10,11 +10,11 @@ use lib.Seq.{sets}
 use Rattle.ids.specs.Keys.{Key}
 use Rattle.token.specs.declared.Moved.{Moved}
 use Rattle.token.specs.declared.Moved.the-variants.{Nothing, FeeUnknown, FeeKnown}
-use Rattle.token.specs.Moved.{valueOf}
+use Rattle.token.specs.Moved.{valueOf, sourceBy}
 use Rattle.token.specs.Rows.{rowOf, rowsOf}
 use Rattle.route.specs.Lay.{placed}
 use Rattle.route.specs.Known.{rowIf}
-use Rattle.route.specs.Transfers.{sourceOf, movedCount}
+use Rattle.route.specs.Transfers.{movedCount}
 
 pub count-le : (m : Moved) → movedCount m ≤ 1
 count-le Nothing = omega arith
@@ -28,7 +28,7 @@ module _ (κ : ℕ → Key) (μ : Key → Option Key) (i : ℕ) (program : Key) 
   row-counted (FeeUnknown s d a) = refl
   row-counted (FeeKnown s d a f) = refl
 
-  pub row-placed : (m : Moved) → mint ≡ μ (κ (sourceOf m)) → (out : List ℕ) (k : ℕ)
+  pub row-placed : (m : Moved) → mint ≡ μ (κ (sourceBy m)) → (out : List ℕ) (k : ℕ)
       → sets out (k * 150) (rowsOf i program mint (valueOf κ m)) ≡ placed 150 k (rowIf (λ t. rowOf i program (μ (t .source)) t) (valueOf κ m)) out
   unfolding placed
   row-placed Nothing h out k = refl

@@ -10,4 +10,5 @@ pub mod Tables
 pub mod Route
 pub mod Fit
 pub mod Arrays
+pub mod Filled
 pub mod Order

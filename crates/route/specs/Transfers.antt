@@ -21,12 +21,6 @@ transferOf ks x = transfer (keyOf ks) (programOf ks x) (x .accounts) (x .bytes)
 unfoldable pub transferRows : List ℕ → List MintRow → ℕ → Instruction → List (List ℕ)
 transferRows ks table i x = rowIf (λ t. rowOf i (keyOf ks (x .program)) (mintIn table (t .source)) t) (transferOf ks x)
 
--- the index of the source; 0 where nothing is moved
-abbrev pub sourceOf : Moved → ℕ
-sourceOf Nothing = 0
-sourceOf (FeeUnknown s d a) = s
-sourceOf (FeeKnown s d a f) = s
-
 -- how many transfers that is
 abbrev pub movedCount : Moved → ℕ
 movedCount Nothing = 0

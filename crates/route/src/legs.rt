@@ -12,14 +12,14 @@ ghost use Rattle.route.specs.Known.{Puts, Fills, Numbers};
 ghost use Rattle.route.specs.Legs.{legRows};
 
 // Writes row k for the instruction at an offset, if it is a leg. Answers how many rows that is.
-fn put_one(
+fn put_one<'a>(
     names: &[u8],
-    keys: &[u8],
+    keys: &'a [u8],
     pack: &[u8],
     pools: &[u8],
     at: usize,
     i: u32,
-    mints: &[u8],
+    mints: &'a [u8],
     out: &mut [u8],
     k: usize,
 ) -> u8
@@ -58,14 +58,14 @@ fn number(r: u8, k: usize) -> u32
 }
 
 // The rows of the n invocations; `leg` holds the number of each one's leg. Answers how many there are.
-pub(crate) fn put_rows(
+pub(crate) fn put_rows<'a>(
     names: &[u8],
-    keys: &[u8],
+    keys: &'a [u8],
     pack: &[u8],
     pools: &[u8],
     n: usize,
     at: &[u32; 1024],
-    mints: &[u8],
+    mints: &'a [u8],
     out: &mut [u8],
     leg: &mut [u32; 1024],
 ) -> usize

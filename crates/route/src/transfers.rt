@@ -7,7 +7,7 @@ ghost use lib.ListN.{length};
 ghost use Rattle.pack.specs.Invocation.{instructionAt};
 ghost use Rattle.route.specs.Arrays.{itemAt};
 ghost use Rattle.route.specs.Known.{mintAt, Puts, Fills, Counts};
-ghost use Rattle.route.specs.Transfers.{transferRows, sourceOf, movedCount};
+ghost use Rattle.route.specs.Transfers.{transferRows, movedCount};
 
 // The final mint of a key index: 32 bytes, zero where it has none.
 pub(crate) fn mint(mints: &[u8], index: u8) -> &[u8]
@@ -16,17 +16,6 @@ pub(crate) fn mint(mints: &[u8], index: u8) -> &[u8]
 {
     let at = index as usize * 32;
     &mints[at..at + 32]
-}
-
-// The index of the source; 0 where nothing is moved.
-fn source(moved: Moved) -> u8
-    ensures { λ r. ⌜ r ≡ sourceOf moved ⌝ }
-{
-    match moved {
-        Moved::Nothing => 0,
-        Moved::FeeUnknown(source, _, _) => source,
-        Moved::FeeKnown(source, _, _, _) => source,
-    }
 }
 
 // How many transfers there are: one, or none.
@@ -56,14 +45,14 @@ fn put_one(
     let program = pack::program(pack, at);
     let id = ids::program(keys, program as usize);
     let moved = token::transfer(id, keys, pack::accounts(pack, at), pack::data(pack, at));
-    token::put_row(
+    token::row::put_row(
         out,
         k * 150,
         i,
         keys,
         program,
         moved,
-        mint(mints, source(moved)),
+        mint(mints, token::source(moved)),
     );
     count(moved)
 }

@@ -1,11 +1,13 @@
+-- Each return is the verdict under the checks that were passed before it; these are collected in the order of the code.
+-- Assumes nothing.
 use Rattle.pack.specs.Sections.{marked, ordered, sectionOf}
 use Rattle.pack.specs.Items.{keysFill, rowsFill, outersWhole, groupsWhole}
 use Rattle.pack.specs.View.{outerIn, groupsIn, viewOf}
 use Rattle.pack.specs.Flatten.{keptIn, flatten}
 use Rattle.pack.specs.Verdict.{verdict}
 use Rattle.pack.proofs.Sizes.{keys-length, invocations-length, count-broken, count-of}
-use Prim.Native.Nat.{ℕ, _+_, _%_, _<_}
-use mathlib.Core.Path.{_≡_, refl, sym, ap, _∙_}
+use Prim.Native.Nat.{ℕ, _%_}
+use mathlib.Core.Path.{_≡_, sym, ap, _∙_}
 use mathlib.Core.Bool.{true, false}
 use mathlib.Core.List.{List}
 use borrow.Author.Tests.{not-true, not-false, eq-eqb, ne-eqb, lt-ltb, le-ltb}
@@ -15,14 +17,6 @@ use lib.ListN.{length}
 use borrow.Author.Needs.{needs}
 use Rattle.pack.proofs.judge.Statement.{statement}
 use Rattle.pack.proofs.judge.Tie as tie
-use Rattle.pack.proofs.judge.Reads as reads
-use Rattle.pack.proofs.judge.Lts as lts
-use Rattle.pack.proofs.trailer.marked.Reads as marked-reads
-use Rattle.pack.proofs.trailer.ordered.Reads as ordered-reads
-use Rattle.pack.proofs.trailer.section.Reads as section-reads
-use Rattle.pack.proofs.whole.groups.Reads as groups-reads
-use Rattle.pack.proofs.whole.keys.Reads as keys-reads
-use Rattle.pack.proofs.whole.outers.Reads as outers-reads
 
 -- what is known after each test that was passed
 abbrev pack-of : tie.After-ordered → List ℕ
@@ -63,67 +57,53 @@ few-keys c =
     let e = keys-length p in
     le-ltb 256 (length (viewOf p .keys)) (omega (arith, ap length (c .before .before .before .before .before .before .before .before .before .before .before .before .before .before .before .before .before .section .ensures), c .if6 .left))
 
--- src/lib.rt:55:9
 marked-requires : tie.Need-marked-requires
 marked-requires c κs = search needs
 
--- src/lib.rt:56:9
 returns : tie.Need-returns
 unfolding verdict
 returns c = rw (sym (c .before .marked .ensures) ∙ not-true _ (c .if1 .taken))
 
--- src/lib.rt:58:9
 ordered-requires : tie.Need-ordered-requires
 ordered-requires c κs = search needs
 
--- src/lib.rt:59:9
 returns-2 : tie.Need-returns-2
 unfolding verdict
 returns-2 c = rw (marked-yes (c .before), sym (c .before .ordered .ensures) ∙ not-true _ (c .if2 .taken))
 
--- src/lib.rt:61:9
 section-requires : tie.Need-section-requires
 section-requires c κs = search needs
 
--- src/lib.rt:62:9
 keys-requires : tie.Need-keys-requires
 keys-requires c κs = search needs
 
--- src/lib.rt:63:9
 returns-3 : tie.Need-returns-3
 unfolding verdict
 returns-3 c =
     let e : keysFill (sectionOf (pack-of (c .before .before .before .before)) 0) ≡ false = rw (← c .before .before .section .ensures) (sym (c .before .keys .ensures) ∙ not-true _ (c .if3 .taken)) in
     rw (marked-yes (c .before .before .before .before), ordered-yes (c .before .before), e)
 
--- src/lib.rt:65:8
 section-requires-2 : tie.Need-section-requires-2
 section-requires-2 c κs = search needs
 
--- src/lib.rt:66:9
 returns-4 : tie.Need-returns-4
 unfolding verdict rowsFill
 returns-4 c =
     let e : eqb (length (sectionOf (pack-of (c .before .before .before .before .before .before)) 1) % 36) 0 ≡ false = rw (← c .before .section2 .ensures) (ne-eqb _ _ (c .if4 .taken)) in
     rw (marked-yes (c .before .before .before .before .before .before), ordered-yes (c .before .before .before .before), keys-yes (c .before), e)
 
--- src/lib.rt:68:43
 section-requires-3 : tie.Need-section-requires-3
 section-requires-3 c κs = search needs
 
--- src/lib.rt:68:29
 outers-requires : tie.Need-outers-requires
 outers-requires c κs = search needs
 
--- src/lib.rt:68:19
 enum-known-outers : tie.Need-enum-known-outers
 enum-known-outers c = search needs
 
--- src/lib.rt:69:9
 enum-told : tie.Need-enum-told
 enum-told c = search needs
 
--- src/lib.rt:69:9
 returns-5 : tie.Need-returns-5
 unfolding verdict
 returns-5 c =
@@ -131,23 +111,18 @@ returns-5 c =
     let e = count-broken (outersWhole s) (length (outerIn s)) (rw (← c .before .before .before .section3 .ensures) (sym (c .enum-told .given .1) ∙ c .before .before .outers .ensures)) in
     rw (marked-yes (c .before .before .before .before .before .before .before .before .before .before), ordered-yes (c .before .before .before .before .before .before .before .before), keys-yes (c .before .before .before .before .before), balances-yes (c .before .before .before), e)
 
--- src/lib.rt:71:43
 section-requires-4 : tie.Need-section-requires-4
 section-requires-4 c κs = search needs
 
--- src/lib.rt:71:29
 groups-requires : tie.Need-groups-requires
 groups-requires c κs = search needs
 
--- src/lib.rt:71:19
 enum-known-inners : tie.Need-enum-known-inners
 enum-known-inners c = search needs
 
--- src/lib.rt:72:9
 enum-told-2 : tie.Need-enum-told-2
 enum-told-2 c = search needs
 
--- src/lib.rt:72:9
 returns-6 : tie.Need-returns-6
 unfolding verdict
 returns-6 c =
@@ -155,18 +130,15 @@ returns-6 c =
     let e = count-broken (groupsWhole (sectionOf p 3)) (keptIn (length (outerIn (sectionOf p 2))) (groupsIn (sectionOf p 3))) (rw (← c .before .before .before .section4 .ensures, ← outers-yes (c .before .before .before) .1) (sym (c .enum-told2 .given .1) ∙ c .before .before .groups .ensures)) in
     rw (marked-yes (c .before .before .before .before .before .before .before .before .before .before .before .before .before .before .before), ordered-yes (c .before .before .before .before .before .before .before .before .before .before .before .before .before), keys-yes (c .before .before .before .before .before .before .before .before .before .before), balances-yes (c .before .before .before .before .before .before .before .before), outers-yes (c .before .before .before) .0, e)
 
--- src/lib.rt:74:8
 section-requires-5 : tie.Need-section-requires-5
 section-requires-5 c κs = search needs
 
--- src/lib.rt:75:9
 returns-7 : tie.Need-returns-7
 unfolding verdict rowsFill
 returns-7 c =
     let e : eqb (length (sectionOf (pack-of (c .before .before .before .before .before .before .before .before .before .before .before .before .before .before .before .before .before .before)) 4) % 32) 0 ≡ false = rw (← c .before .section5 .ensures) (ne-eqb _ _ (c .if5 .taken)) in
     rw (marked-yes (c .before .before .before .before .before .before .before .before .before .before .before .before .before .before .before .before .before .before), ordered-yes (c .before .before .before .before .before .before .before .before .before .before .before .before .before .before .before .before), keys-yes (c .before .before .before .before .before .before .before .before .before .before .before .before .before), balances-yes (c .before .before .before .before .before .before .before .before .before .before .before), outers-yes (c .before .before .before .before .before .before) .0, groups-yes (c .before) .0, e)
 
--- src/lib.rt:78:9
 returns-8 : tie.Need-returns-8
 unfolding verdict
 returns-8 c =
@@ -174,7 +146,6 @@ returns-8 c =
     let e = keys-length p in
     rw (marked-yes (c .before .before .before .before .before .before .before .before .before .before .before .before .before .before .before .before .before .before .before), ordered-yes (c .before .before .before .before .before .before .before .before .before .before .before .before .before .before .before .before .before), keys-yes (c .before .before .before .before .before .before .before .before .before .before .before .before .before .before), balances-yes (c .before .before .before .before .before .before .before .before .before .before .before .before), outers-yes (c .before .before .before .before .before .before .before) .0, groups-yes (c .before .before) .0, pools-yes (c .before), lt-ltb 256 (length (viewOf p .keys)) (omega (arith, ap length (c .before .before .before .before .before .before .before .before .before .before .before .before .before .before .before .before .before .section .ensures), c .if6 .taken)))
 
--- src/lib.rt:81:9
 returns-9 : tie.Need-returns-9
 unfolding verdict
 returns-9 c =
@@ -184,7 +155,6 @@ returns-9 c =
     let t = invocations-length p in
     rw (marked-yes (c .before .before .before .before .before .before .before .before .before .before .before .before .before .before .before .before .before .before .before .before), ordered-yes (c .before .before .before .before .before .before .before .before .before .before .before .before .before .before .before .before .before .before), keys-yes (c .before .before .before .before .before .before .before .before .before .before .before .before .before .before .before), balances-yes (c .before .before .before .before .before .before .before .before .before .before .before .before .before), outers-yes (c .before .before .before .before .before .before .before .before) .0, groups-yes (c .before .before .before) .0, pools-yes (c .before .before), few-keys (c .before), lt-ltb 1024 (length (flatten (viewOf p))) (omega arith))
 
--- src/lib.rt:84:9
 returns-10 : tie.Need-returns-10
 unfolding verdict
 returns-10 c =
@@ -194,7 +164,6 @@ returns-10 c =
     let t = invocations-length p in
     rw (marked-yes (c .before .before .before .before .before .before .before .before .before .before .before .before .before .before .before .before .before .before .before .before .before), ordered-yes (c .before .before .before .before .before .before .before .before .before .before .before .before .before .before .before .before .before .before .before), keys-yes (c .before .before .before .before .before .before .before .before .before .before .before .before .before .before .before .before), balances-yes (c .before .before .before .before .before .before .before .before .before .before .before .before .before .before), outers-yes (c .before .before .before .before .before .before .before .before .before) .0, groups-yes (c .before .before .before .before) .0, pools-yes (c .before .before .before), few-keys (c .before .before), lt-ltb 1024 (length (flatten (viewOf p))) (omega arith))
 
--- src/lib.rt:52:1
 returns-11 : tie.Need-returns-11
 unfolding verdict
 returns-11 c =

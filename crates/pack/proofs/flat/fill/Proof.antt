@@ -1,43 +1,29 @@
-use Rattle.pack.specs.Sections.{startOf, sectionOf}
+-- The arrays hold what the chain walk asks for, since no refusal meets the pack.
+-- Assumes nothing.
+use Rattle.pack.specs.Sections.{sectionOf}
 use Rattle.pack.specs.Items.{outersAt}
-use Rattle.pack.specs.Verdict.{verdict, numberOf}
-use Rattle.pack.specs.Layout.{keptAt, layout, spreadOf, Wrote}
-use Rattle.pack.proofs.Kept.{laid}
+use Rattle.pack.specs.Layout.{keptAt, layout, spreadOf}
 use Rattle.pack.proofs.Filled.{ends, outers-room, groups-room, kept-room, chained, outs-laid, outs-room, spread-room, laid-out}
 use Rattle.wire.specs.Zeros.{zeros}
-use Prim.Native.Nat.{ℕ, _+_, _≤_, _<_}
 use native.Mathlib.Omega.{arith}
-use mathlib.Core.Path.{_≡_, refl, sym, ap, _∙_}
-use borrow.Author.Tests.{eq-eqb}
-use lib.ListN.{length, getD, take}
-use lib.Seq.{sets, length-sets}
+use mathlib.Core.Path.{_≡_, refl, ap, _∙_}
+use lib.ListN.{length, take}
+use lib.Seq.{length-sets}
 use borrow.Author.Needs.{needs}
 use Rattle.pack.proofs.flat.fill.Statement.{statement}
 use Rattle.pack.proofs.flat.fill.Tie as tie
-use Rattle.pack.proofs.flat.fill.Reads as reads
-use Rattle.pack.proofs.flat.fill.Lts as lts
-use Rattle.pack.proofs.flat.kept_places.Reads as kept-places-reads
-use Rattle.pack.proofs.flat.link.Reads as link-reads
-use Rattle.pack.proofs.flat.outer_places.Reads as outer-places-reads
-use Rattle.pack.proofs.flat.spread.Reads as spread-reads
-use Rattle.pack.proofs.trailer.section.Reads as section-reads
-use Rattle.pack.proofs.trailer.start.Reads as start-reads
 
--- src/flat.rt:223:26
 section-requires : tie.Need-section-requires
 section-requires c κs = search needs
 
--- src/flat.rt:223:9
 outer-places-requires : tie.Need-outer-places-requires
 outer-places-requires c κs =
     let a = c .before .section in
     outers-room (c .before .before .before .args .pack .now) (a .result .now) (sectionOf (c .before .before .before .args .pack .now) 3) (length (outersAt (a .result .now))) (c .before .before .before .pre) (a .ensures) refl refl
 
--- src/flat.rt:224:9
 section-requires-2 : tie.Need-section-requires-2
 section-requires-2 c κs = search needs
 
--- src/flat.rt:226:9
 kept-places-requires : tie.Need-kept-places-requires
 kept-places-requires c κs =
     let p = c .before .before .before .before .before .before .args .pack .now in
@@ -50,7 +36,6 @@ kept-places-requires c κs =
     let b = c .before .section2 .ensures in
     groups-room p s g o e a b (v .0)
 
--- src/flat.rt:229:5
 link-requires : tie.Need-link-requires
 link-requires c κs =
     let p = c .before .before .before .before .before .before .before .before .before .before .args .pack .now in
@@ -67,15 +52,12 @@ link-requires c κs =
       kept-room p s g o e a b (v .0) (zeros 1024) (c .before .before .before .kept-places .last .1 .1 .0) (c .before .before .before .kept-places .result) refl (w .0) (w .1),
     )
 
--- src/flat.rt:230:9
 start-requires : tie.Need-start-requires
 start-requires c κs = search needs
 
--- src/flat.rt:231:9
 start-requires-2 : tie.Need-start-requires-2
 start-requires-2 c κs = search needs
 
--- src/flat.rt:232:5
 spread-requires : tie.Need-spread-requires
 spread-requires c κs =
     let p = c .before .before .before .before .before .before .before .before .before .before .before .before .before .before .before .before .before .before .before .before .before .args .pack .now in
@@ -100,7 +82,6 @@ spread-requires c κs =
       ),
     )
 
--- src/flat.rt:218:1
 returns : tie.Need-returns
 returns c =
     let p = c .before .before .before .before .before .before .before .before .before .before .before .before .before .before .before .before .before .before .before .before .before .before .args .pack .now in

@@ -1,37 +1,29 @@
+-- A pack that is refused has no layout; any other is filled in.
+-- Assumes nothing.
 use Rattle.pack.specs.Verdict.{numberOf}
 use Rattle.pack.proofs.Filled.{laid-none}
-use mathlib.Core.Path.{_≡_, refl, sym, ap, _∙_}
+use mathlib.Core.Path.{refl, sym, ap, _∙_}
 use borrow.Author.Needs.{needs}
 use Rattle.pack.proofs.flat.flatten.Statement.{statement}
 use Rattle.pack.proofs.flat.flatten.Tie as tie
-use Rattle.pack.proofs.flat.flatten.Reads as reads
-use Rattle.pack.proofs.flat.flatten.Lts as lts
-use Rattle.pack.proofs.flat.fill.Reads as fill-reads
-use Rattle.pack.proofs.judge.Reads as judge-reads
-use Rattle.pack.proofs.number.Reads as number-reads
 
--- src/flat.rt:243:22
 judge-requires : tie.Need-judge-requires
 judge-requires c κs = search needs
 
--- src/flat.rt:243:8
 number-requires : tie.Need-number-requires
 number-requires c κs = search needs
 
--- src/flat.rt:244:9
 returns : tie.Need-returns
 returns c =
     let p = c .before .before .before .before .before .before .before .before .args .pack .now in
     let e = c .before .number .ensures ∙ ap numberOf (c .before .before .judge .ensures) in
     rw (laid-none p (λ z. c .if1 .taken (e ∙ z))) (record { count = refl; ats = refl; outers = refl; inners = refl; heights = refl })
 
--- src/flat.rt:246:5
 fill-requires : tie.Need-fill-requires
 fill-requires c κs =
     let e = c .before .before .before .before .before .number .ensures ∙ ap numberOf (c .before .before .before .before .before .before .judge .ensures) in
     sym e ∙ c .before .before .before .before .if1 .left
 
--- src/flat.rt:236:1
 returns-2 : tie.Need-returns-2
 returns-2 c = search needs
 

@@ -1,3 +1,5 @@
+-- The flag decides.
+-- Assumes nothing.
 use Rattle.pack.specs.Items.{heightAt}
 use Rattle.pack.specs.Layout.{raised}
 use mathlib.Core.Path.{sym, _∙_}
@@ -7,39 +9,28 @@ use lib.ListN.{getD}
 use borrow.Author.Needs.{needs}
 use Rattle.pack.proofs.flat.height_code.Statement.{statement}
 use Rattle.pack.proofs.flat.height_code.Tie as tie
-use Rattle.pack.proofs.flat.height_code.Reads as reads
-use Rattle.pack.proofs.flat.height_code.Lts as lts
-use Rattle.wire.proofs.byte.Reads as byte-reads
-use Rattle.wire.proofs.u32_at.Reads as u32-at-reads
 
--- src/flat.rt:96:8
 byte-requires : tie.Need-byte-requires
 byte-requires c κs = search needs
 
--- src/flat.rt:97:9
 returns : tie.Need-returns
 unfolding raised heightAt
 returns c =
     let a = c .before .before .before .args in
     rw (eq-eqb (getD (a .s .now) (a .at) 0) 0 (sym (c .before .byte .ensures) ∙ c .if1 .taken))
 
--- src/flat.rt:99:21
 add-u32-at : tie.Need-add-u32-at
 add-u32-at c = search needs
 
--- src/flat.rt:99:5
 u32-at-requires : tie.Need-u32-at-requires
 u32-at-requires c κs = search needs
 
--- src/flat.rt:99:5
 cast-result : tie.Need-cast-result
 cast-result c = search needs
 
--- src/flat.rt:99:5
 add-result : tie.Need-add-result
 add-result c = search needs
 
--- src/flat.rt:92:1
 returns-2 : tie.Need-returns-2
 unfolding raised heightAt
 returns-2 c =

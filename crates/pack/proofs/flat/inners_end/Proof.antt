@@ -1,16 +1,14 @@
-use Rattle.pack.specs.Items.{innersEnd, itemEnd}
+-- The end of what is left is the end of all.
+-- Assumes nothing.
+use Rattle.pack.specs.Items.{innersEnd}
 use Rattle.pack.proofs.Walk.{inners-grow}
 use Rattle.pack.proofs.Places.{member-end}
-use Prim.Native.Nat.{ℕ, _+_, _-_, _≤_, _<_}
+use Prim.Native.Nat.{ℕ, _-_}
 use native.Mathlib.Nat.{sub-zero}
 use native.Mathlib.Omega.{arith}
-use mathlib.Core.Path.{_≡_, refl, sym, _∙_}
-use lib.ListN.{length}
+use mathlib.Core.Path.{_≡_, _∙_}
 use Rattle.pack.proofs.flat.inners_end.Statement.{statement}
 use Rattle.pack.proofs.flat.inners_end.Tie as tie
-use Rattle.pack.proofs.flat.inners_end.Reads as reads
-use Rattle.pack.proofs.flat.inners_end.Lts as lts
-use Rattle.pack.proofs.item_end.Reads as item-end-reads
 
 abbrev Inv-loop : tie.InvT-loop
 Inv-loop s n at to₀ j₀ to j = innersEnd s (n - j) to ≡ innersEnd s n at
@@ -18,34 +16,27 @@ Inv-loop s n at to₀ j₀ to j = innersEnd s (n - j) to ≡ innersEnd s n at
 abbrev μ-loop : tie.MeasureT-loop
 μ-loop s n at to₀ j₀ to j = n - j
 
--- src/flat.rt:38:5
 loop-holds : tie.Need-loop-holds Inv-loop μ-loop
 loop-holds c = simp sub-zero
 
--- src/flat.rt:39:33
 add-item-end : tie.Need-add-item-end Inv-loop μ-loop
 add-item-end c = let l = c .before .loop in let a = c .before .before .before .args in let g = inners-grow (a .s .now) (a .n - l .j) (l .to) in omega (arith, c .before .loop .inv)
 
--- src/flat.rt:39:9
 item-end-requires : tie.Need-item-end-requires Inv-loop μ-loop
 item-end-requires c κs = let l = c .before .loop in let a = c .before .before .before .args in let g = inners-grow (a .s .now) (a .n - l .j) (l .to) in omega (arith, c .before .loop .inv)
 
--- src/flat.rt:40:9
 add-j : tie.Need-add-j Inv-loop μ-loop
 add-j c = omega arith
 
--- src/flat.rt:38:5
 loop-less : tie.Need-loop-less Inv-loop μ-loop
 loop-less c = omega arith
 
--- src/flat.rt:38:5
 loop-again : tie.Need-loop-again Inv-loop μ-loop
 loop-again c =
     let l = c .before .before .loop in
     let a = c .before .before .before .before .args in
     rw (c .item-end .ensures) (member-end (λ (x : ℕ). x) (a .s .now) 0 0 (a .n) (l .j) (l .to) (omega arith) ∙ l .inv)
 
--- src/flat.rt:32:1
 returns : tie.Need-returns Inv-loop μ-loop
 unfolding innersEnd
 returns c =

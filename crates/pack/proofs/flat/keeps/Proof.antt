@@ -1,3 +1,5 @@
+-- The test of the index, then that of the count.
+-- Assumes nothing.
 use Rattle.pack.specs.Layout.{keeps}
 use Rattle.wire.specs.Le.{le}
 use native.Mathlib.Omega.{arith}
@@ -5,35 +7,25 @@ use borrow.Author.Tests.{lt-ltb, le-ltb}
 use borrow.Author.Needs.{needs}
 use Rattle.pack.proofs.flat.keeps.Statement.{statement}
 use Rattle.pack.proofs.flat.keeps.Tie as tie
-use Rattle.pack.proofs.flat.keeps.Reads as reads
-use Rattle.pack.proofs.flat.keeps.Lts as lts
-use Rattle.wire.proofs.u16_at.Reads as u16-at-reads
-use Rattle.wire.proofs.u32_at.Reads as u32-at-reads
 
--- src/flat.rt:50:13
 u32-at-requires : tie.Need-u32-at-requires
 u32-at-requires c κs = search needs
 
--- src/flat.rt:50:13
 cast-if1 : tie.Need-cast-if1
 cast-if1 c = search needs
 
--- src/flat.rt:51:9
 returns : tie.Need-returns
 unfolding keeps
 returns c =
     let a = c .before .before .before .args in
     rw (le-ltb (le 4 (a .s .now) (a .g)) (a .o) (omega (arith, c .before .u32-at .ensures)))
 
--- src/flat.rt:53:25
 add-u16-at : tie.Need-add-u16-at
 add-u16-at c = search needs
 
--- src/flat.rt:53:9
 u16-at-requires : tie.Need-u16-at-requires
 u16-at-requires c κs = search needs
 
--- src/flat.rt:46:1
 returns-2 : tie.Need-returns-2
 unfolding keeps
 returns-2 c =

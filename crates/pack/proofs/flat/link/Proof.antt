@@ -1,18 +1,15 @@
+-- Groups from place k on are chained: each holds the next of its outer instruction, and each outer instruction its first.
+-- Assumes nothing.
 use Rattle.pack.specs.Layout.{firstFrom, nextOf}
 use Rattle.pack.proofs.Chains.{first-step, next-step, lower, headed}
 use Rattle.wire.specs.Le.{le}
-use Prim.Native.Nat.{ℕ, suc, _+_, _-_, _≤_, _<_}
+use Prim.Native.Nat.{ℕ, _+_, _-_, _≤_, _<_}
 use native.Mathlib.Omega.{arith}
-use mathlib.Core.Path.{_≡_, refl, sym, ap, _∙_}
-use mathlib.Core.Bool.{cond}
-use lib.Dec.{eqb}
+use mathlib.Core.Path.{_≡_, _∙_}
 use lib.ListN.{length, getD, take, drop, length-take, length-set, length-replicate, getD-replicate, drop-of-length-le}
 use lib.Seq.{getD-take}
 use Rattle.pack.proofs.flat.link.Statement.{statement}
 use Rattle.pack.proofs.flat.link.Tie as tie
-use Rattle.pack.proofs.flat.link.Reads as reads
-use Rattle.pack.proofs.flat.link.Lts as lts
-use Rattle.wire.proofs.u32_at.Reads as u32-at-reads
 
 abbrev Inv-loop : tie.InvT-loop
 Inv-loop s place n next₀ first₀ k₀ next first k = (k ≤ n) × (length next ≡ 1024) × (length first ≡ 1024) × ((t : ℕ) → k ≤ t → t < n → getD next t 0 ≡ nextOf s (take n place) t) × ((i : ℕ) → i < 1024 → getD first i 0 ≡ firstFrom s i k (drop k (take n place)))
@@ -20,7 +17,6 @@ Inv-loop s place n next₀ first₀ k₀ next first k = (k ≤ n) × (length nex
 abbrev μ-loop : tie.MeasureT-loop
 μ-loop s place n next₀ first₀ k₀ next first k = k
 
--- src/flat.rt:83:5
 loop-holds : tie.Need-loop-holds Inv-loop μ-loop
 unfolding firstFrom
 loop-holds c =
@@ -34,81 +30,65 @@ loop-holds c =
       λ i h. rw (q .3, drop-of-length-le (take (a .n) (a .place .now)) {i = a .n} (omega arith)) (getD-replicate {A = ℕ} 1024 i 0 0 h),
     )
 
--- src/flat.rt:84:9
 sub-k : tie.Need-sub-k Inv-loop μ-loop
 sub-k c = omega arith
 
--- src/flat.rt:85:33
 mul-u32-at : tie.Need-mul-u32-at Inv-loop μ-loop
 mul-u32-at c = omega arith
 
--- src/flat.rt:85:33
 element-copy-out-u32-at : tie.Need-element-copy-out-u32-at Inv-loop μ-loop
 element-copy-out-u32-at c = omega arith
 
--- src/flat.rt:85:33
 cast-u32-at : tie.Need-cast-u32-at Inv-loop μ-loop
 cast-u32-at c =
     let l = c .before .before .loop in
     omega (arith, c .before .before .before .before .pre .1 (l .k - 1) (omega arith) .0)
 
--- src/flat.rt:85:17
 u32-at-requires : tie.Need-u32-at-requires Inv-loop μ-loop
 u32-at-requires c κs = tt
 
--- src/flat.rt:85:17
 cast-i : tie.Need-cast-i Inv-loop μ-loop
 cast-i c = omega arith
 
--- src/flat.rt:86:19
 mul-next : tie.Need-mul-next Inv-loop μ-loop
 mul-next c =
     let l = c .before .before .before .loop in
     let q = c .before .before .before .before .before .pre .1 (l .k - 1) (omega arith) .1 in
     omega (arith, c .u32-at .ensures, q)
 
--- src/flat.rt:86:19
 element-copy-out-next : tie.Need-element-copy-out-next Inv-loop μ-loop
 element-copy-out-next c =
     let l = c .before .before .before .loop in
     let q = c .before .before .before .before .before .pre .1 (l .k - 1) (omega arith) .1 in
     omega (arith, c .u32-at .ensures, q)
 
--- src/flat.rt:86:9
 mul-next-2 : tie.Need-mul-next-2 Inv-loop μ-loop
 mul-next-2 c = omega arith
 
--- src/flat.rt:86:9
 element-write-next : tie.Need-element-write-next Inv-loop μ-loop
 element-write-next c = omega arith
 
--- src/flat.rt:87:20
 cast-first : tie.Need-cast-first Inv-loop μ-loop
 cast-first c = omega arith
 
--- src/flat.rt:87:20
 add-first : tie.Need-add-first Inv-loop μ-loop
 add-first c = omega arith
 
--- src/flat.rt:87:9
 mul-first : tie.Need-mul-first Inv-loop μ-loop
 mul-first c =
     let l = c .before .before .before .before .loop in
     let q = c .before .before .before .before .before .before .pre .1 (l .k - 1) (omega arith) .1 in
     omega (arith, c .before .u32-at .ensures, q)
 
--- src/flat.rt:87:9
 element-write-first : tie.Need-element-write-first Inv-loop μ-loop
 element-write-first c =
     let l = c .before .before .before .before .loop in
     let q = c .before .before .before .before .before .before .pre .1 (l .k - 1) (omega arith) .1 in
     omega (arith, c .before .u32-at .ensures, q)
 
--- src/flat.rt:83:5
 loop-less : tie.Need-loop-less Inv-loop μ-loop
 loop-less c = omega arith
 
--- src/flat.rt:83:5
 loop-again : tie.Need-loop-again Inv-loop μ-loop
 loop-again c =
     let l = c .before .before .before .before .loop in
@@ -130,7 +110,6 @@ loop-again c =
       λ i h. headed (l .first) (c .before .u32-at .result) (k + 1) (omega arith) i ∙ rw (l .inv .4 i h, u) (first-step (a .s .now) gs k (l .k) s i (omega arith)),
     )
 
--- src/flat.rt:77:1
 returns : tie.Need-returns Inv-loop μ-loop
 returns c =
     let l = c .before .loop in

@@ -1,25 +1,22 @@
+-- Writing the instructions that are left from here leaves what writing all of them leaves, in each of the four arrays.
+-- Assumes nothing.
 use Rattle.pack.specs.Invocation.{Position}
-use Rattle.pack.specs.Items.{heightAt, itemEnd, innersEnd, innersFrom, countAt, groupEnd}
+use Rattle.pack.specs.Items.{innersEnd, innersFrom, groupEnd}
 use Rattle.pack.specs.Flatten.{numbered}
-use Rattle.pack.specs.Layout.{raised, atOf, outerOf, innerOf, heightOf, Wrote}
+use Rattle.pack.specs.Layout.{raised, atOf, outerOf, innerOf, heightOf}
 use Rattle.pack.proofs.Walk.{inners-grow, inners-length}
 use Rattle.pack.proofs.Counting.{numbered-length}
 use Rattle.pack.proofs.Places.{group-grows, member-next, member-end, member-last}
-use Prim.Native.Nat.{ℕ, suc, _+_, _-_, _*_, _≤_, _<_}
+use Prim.Native.Nat.{ℕ, _+_, _-_, _≤_}
 use native.Mathlib.Nat.{sub-zero, add-zero}
 use native.Mathlib.Numerals.{add-one}
 use native.Mathlib.Omega.{arith}
-use mathlib.Core.Path.{_≡_, refl, sym, ap, _∙_}
+use mathlib.Core.Path.{_≡_, refl, sym, _∙_}
 use mathlib.Core.List.{List, map}
 use lib.ListN.{length}
 use lib.Seq.{sets}
 use Rattle.pack.proofs.flat.members.Statement.{statement}
 use Rattle.pack.proofs.flat.members.Tie as tie
-use Rattle.pack.proofs.flat.members.Reads as reads
-use Rattle.pack.proofs.flat.members.Lts as lts
-use Rattle.pack.proofs.flat.height_code.Reads as height-code-reads
-use Rattle.pack.proofs.item_end.Reads as item-end-reads
-use Rattle.wire.proofs.u16_at.Reads as u16-at-reads
 
 -- the rest of the group written into an array from here leaves what the whole of it leaves
 abbrev Rest : List ℕ → ℕ → ℕ → ℕ → ℕ → ℕ → ℕ → ℕ → (Position × ℕ → ℕ) → List ℕ → List ℕ → Type 0
@@ -40,100 +37,76 @@ reach c =
     let g = inners-grow (c .before .before .before .args .s .now) (c .before .u16-at .result - l .j) (l .to) in
     omega (arith, l .inv .1, q .1)
 
--- src/flat.rt:107:33
 add-u16-at : tie.Need-add-u16-at Inv-loop μ-loop
 add-u16-at c = omega (arith, group-grows (c .before .args .s .now) (c .before .args .g))
 
--- src/flat.rt:107:17
 u16-at-requires : tie.Need-u16-at-requires Inv-loop μ-loop
 u16-at-requires c κs = tt
 
--- src/flat.rt:107:17
 cast-count : tie.Need-cast-count Inv-loop μ-loop
 cast-count c = omega arith
 
--- src/flat.rt:108:18
 add-to : tie.Need-add-to Inv-loop μ-loop
 add-to c = omega (arith, group-grows (c .before .before .args .s .now) (c .before .before .args .g))
 
--- src/flat.rt:110:5
 loop-holds : tie.Need-loop-holds Inv-loop μ-loop
 unfolding groupEnd
 loop-holds c = simp (sub-zero, add-zero) (omega arith, rw (c .u16-at .ensures), refl, refl, refl, refl)
 
--- src/flat.rt:111:17
 add-k : tie.Need-add-k Inv-loop μ-loop
 add-k c = omega arith
 
--- src/flat.rt:112:13
 height-code-requires : tie.Need-height-code-requires Inv-loop μ-loop
 height-code-requires c κs = reach (c .before)
 
--- src/flat.rt:113:22
 add-header : tie.Need-add-header Inv-loop μ-loop
 add-header c = omega (arith, reach (c .before .before))
 
--- src/flat.rt:114:18
 add-at : tie.Need-add-at Inv-loop μ-loop
 add-at c = omega (arith, reach (c .before .before))
 
--- src/flat.rt:114:17
 cast-at : tie.Need-cast-at Inv-loop μ-loop
 cast-at c = omega (arith, reach (c .before .before))
 
--- src/flat.rt:114:9
 mul-at : tie.Need-mul-at Inv-loop μ-loop
 mul-at c = omega arith
 
--- src/flat.rt:114:9
 element-write-at : tie.Need-element-write-at Inv-loop μ-loop
 element-write-at c = omega arith
 
--- src/flat.rt:115:9
 mul-outer : tie.Need-mul-outer Inv-loop μ-loop
 mul-outer c = omega arith
 
--- src/flat.rt:115:9
 element-write-outer : tie.Need-element-write-outer Inv-loop μ-loop
 element-write-outer c = omega arith
 
--- src/flat.rt:116:20
 cast-inner : tie.Need-cast-inner Inv-loop μ-loop
 cast-inner c = omega arith
 
--- src/flat.rt:116:20
 add-inner : tie.Need-add-inner Inv-loop μ-loop
 add-inner c = omega arith
 
--- src/flat.rt:116:9
 mul-inner : tie.Need-mul-inner Inv-loop μ-loop
 mul-inner c = omega arith
 
--- src/flat.rt:116:9
 element-write-inner : tie.Need-element-write-inner Inv-loop μ-loop
 element-write-inner c = omega arith
 
--- src/flat.rt:117:9
 mul-height : tie.Need-mul-height Inv-loop μ-loop
 mul-height c = omega arith
 
--- src/flat.rt:117:9
 element-write-height : tie.Need-element-write-height Inv-loop μ-loop
 element-write-height c = omega arith
 
--- src/flat.rt:118:9
 item-end-requires : tie.Need-item-end-requires Inv-loop μ-loop
 item-end-requires c κs = omega (arith, reach (c .before .before))
 
--- src/flat.rt:119:9
 add-j : tie.Need-add-j Inv-loop μ-loop
 add-j c = omega arith
 
--- src/flat.rt:110:5
 loop-less : tie.Need-loop-less Inv-loop μ-loop
 loop-less c = omega arith
 
--- src/flat.rt:110:5
 loop-again : tie.Need-loop-again Inv-loop μ-loop
 unfolding raised
 loop-again c =
@@ -153,11 +126,9 @@ loop-again c =
       rw e (step heightOf (l .height) (c .before .height-code .result) (c .before .height-code .ensures) ∙ l .inv .5),
     )
 
--- src/flat.rt:121:5
 add-result : tie.Need-add-result Inv-loop μ-loop
 add-result c = omega arith
 
--- src/flat.rt:103:1
 returns : tie.Need-returns Inv-loop μ-loop
 returns c =
     let l = c .before .loop in

@@ -1,19 +1,17 @@
+-- Writing the places that are left from here leaves what writing all of them leaves.
+-- Assumes nothing.
 use Rattle.pack.specs.Items.{itemEnd, outersFrom, outersFill, outersAt}
 use Rattle.pack.proofs.Walk.{item-grows}
 use Rattle.pack.proofs.Places.{sets-cons, outers-next, outers-cons, outers-nil}
-use Prim.Native.Nat.{ℕ, suc, _+_, _-_, _≤_, _<_}
+use Prim.Native.Nat.{suc, _+_, _-_, _≤_, _<_}
 use native.Mathlib.Nat.{sub-zero, zero-add}
 use native.Mathlib.Omega.{arith}
 use mathlib.Core.Path.{_≡_, refl, sym, ap, _∙_}
 use mathlib.Core.Bool.{true}
-use mathlib.Core.List.{_∷_}
 use lib.ListN.{length}
 use lib.Seq.{sets}
 use Rattle.pack.proofs.flat.outer_places.Statement.{statement}
 use Rattle.pack.proofs.flat.outer_places.Tie as tie
-use Rattle.pack.proofs.flat.outer_places.Reads as reads
-use Rattle.pack.proofs.flat.outer_places.Lts as lts
-use Rattle.pack.proofs.item_end.Reads as item-end-reads
 
 abbrev Inv-loop : tie.InvT-loop
 Inv-loop s place₀ at₀ n₀ place at n = (at ≤ length s) × (n ≤ at) × (outersFill s (suc (length s) - n) at ≡ true) × (n + length (outersFrom s (suc (length s) - n) at) ≡ length (outersAt s)) × (sets place n (outersFrom s (suc (length s) - n) at) ≡ sets place₀ 0 (outersAt s))
@@ -21,73 +19,52 @@ Inv-loop s place₀ at₀ n₀ place at n = (at ≤ length s) × (n ≤ at) × (
 abbrev μ-loop : tie.MeasureT-loop
 μ-loop s place₀ at₀ n₀ place at n = length s - at
 
--- src/flat.rt:23:5
+-- the instruction that comes next
+next : (c : tie.In-loop Inv-loop μ-loop) → (itemEnd (c .before .before .before .args .s .now) (c .before .loop .at) ≤ length (c .before .before .before .args .s .now)) × (outersFill (c .before .before .before .args .s .now) (suc (length (c .before .before .before .args .s .now)) - (c .before .loop .n + 1)) (itemEnd (c .before .before .before .args .s .now) (c .before .loop .at)) ≡ true)
+next c = outers-next (c .before .before .before .args .s .now) (c .before .loop .n) (c .before .loop .at) (omega arith) (omega arith) (c .before .loop .inv .2)
+
+room : (c : tie.In-loop Inv-loop μ-loop) → c .before .loop .n < 1024
+room c =
+    let l = c .before .loop in
+    let s = c .before .before .before .args .s .now in
+    omega (arith, ap length (outers-cons s (l .n) (l .at) (omega arith) (omega arith)), l .inv .3, c .before .before .before .pre .1)
+
 loop-holds : tie.Need-loop-holds Inv-loop μ-loop
 loop-holds c = simp (sub-zero, zero-add) (omega arith, omega arith, c .before .pre .0, refl, refl)
 
--- src/flat.rt:24:20
 cast-place : tie.Need-cast-place Inv-loop μ-loop
 cast-place c = omega arith
 
--- src/flat.rt:24:9
 mul-place : tie.Need-mul-place Inv-loop μ-loop
-mul-place c =
-    let l = c .before .loop in
-    let s = c .before .before .before .args .s .now in
-    let m = ap length (outers-cons s (l .n) (l .at) (omega arith) (omega arith)) in
-    omega (arith, l .inv .3)
+mul-place c = omega (arith, room c)
 
--- src/flat.rt:24:9
 element-write-place : tie.Need-element-write-place Inv-loop μ-loop
-element-write-place c =
-    let l = c .before .loop in
-    let s = c .before .before .before .args .s .now in
-    let m = ap length (outers-cons s (l .n) (l .at) (omega arith) (omega arith)) in
-    omega (arith, l .inv .3)
+element-write-place c = omega (arith, room c)
 
--- src/flat.rt:25:9
 item-end-requires : tie.Need-item-end-requires Inv-loop μ-loop
 item-end-requires c κs = omega arith
 
--- src/flat.rt:26:9
 add-n : tie.Need-add-n Inv-loop μ-loop
-add-n c =
-    let l = c .before .before .loop in
-    let s = c .before .before .before .before .args .s .now in
-    let e = c .item-end .ensures in
-    let w = outers-next s (l .n) (l .at) (omega arith) (omega arith) (l .inv .2) in
-    let x = outers-cons s (l .n) (l .at) (omega arith) (omega arith) in
-    let g = item-grows s (l .at) in
-    omega (arith, e)
+add-n c = omega (arith, room (c .before))
 
--- src/flat.rt:23:5
 loop-less : tie.Need-loop-less Inv-loop μ-loop
-loop-less c =
-    let l = c .before .before .loop in
-    let s = c .before .before .before .before .args .s .now in
-    let e = c .item-end .ensures in
-    let w = outers-next s (l .n) (l .at) (omega arith) (omega arith) (l .inv .2) in
-    let x = outers-cons s (l .n) (l .at) (omega arith) (omega arith) in
-    let g = item-grows s (l .at) in
-    omega (arith, e)
+loop-less c = omega (arith, c .item-end .ensures, item-grows (c .before .before .before .before .args .s .now) (c .before .before .loop .at))
 
--- src/flat.rt:23:5
 loop-again : tie.Need-loop-again Inv-loop μ-loop
 loop-again c =
     let l = c .before .before .loop in
     let s = c .before .before .before .before .args .s .now in
     let e = c .item-end .ensures in
-    let w = outers-next s (l .n) (l .at) (omega arith) (omega arith) (l .inv .2) in
+    let w = next (c .before) in
     let x = outers-cons s (l .n) (l .at) (omega arith) (omega arith) in
     let g = item-grows s (l .at) in (
       omega (arith, e, w .0),
       omega (arith, e),
       rw e (w .1),
-      rw e (let m = ap length x in omega (arith, l .inv .3)),
+      rw e (omega (arith, ap length x, l .inv .3)),
       rw e (sym (sets-cons (l .place) (l .n) (l .at) (outersFrom s (suc (length s) - (l .n + 1)) (itemEnd s (l .at)))) ∙ rw (← x) (l .inv .4)),
     )
 
--- src/flat.rt:17:1
 returns : tie.Need-returns Inv-loop μ-loop
 returns c =
     let l = c .before .loop in

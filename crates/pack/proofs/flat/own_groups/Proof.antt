@@ -1,22 +1,20 @@
+-- The chain has come to the first group of outer i from place t on; writing the groups that are left leaves what writing all of them leaves.
+-- Assumes nothing.
 use Rattle.pack.specs.Invocation.{Position}
-use Rattle.pack.specs.Items.{innersFrom, countAt, groupEnd, groupsAt}
-use Rattle.pack.specs.Flatten.{numbered, inside}
-use Rattle.pack.specs.Layout.{placedAt, firstFrom, nextOf, atOf, outerOf, innerOf, heightOf, Wrote, Chained}
-use Rattle.pack.proofs.Chains.{own, items, first-le, first-later, items-length, none-own, next-from, ahead, nearer, wrote-more}
+use Rattle.pack.specs.Items.{groupsAt}
+use Rattle.pack.specs.Layout.{firstFrom, atOf, outerOf, innerOf, heightOf, Chained}
+use Rattle.pack.proofs.Chains.{own, items, first-le, first-later, items-length, none-own, Found, found-at, ahead, nearer, wrote-more}
 use Rattle.wire.specs.Le.{le}
 use Rattle.pack.proofs.Places.{group-grows}
-use Prim.Native.Nat.{ℕ, suc, _+_, _-_, _*_, _≤_, _<_}
-use native.Mathlib.Nat.{sub-zero, add-zero}
+use Prim.Native.Nat.{ℕ, _+_, _-_, _≤_}
+use native.Mathlib.Nat.{add-zero}
 use native.Mathlib.Omega.{arith}
-use mathlib.Core.Path.{_≡_, refl, sym, ap, _∙_}
-use mathlib.Core.List.{List, _++_, map}
+use mathlib.Core.Path.{_≡_, sym, ap, _∙_}
+use mathlib.Core.List.{List, map}
 use lib.ListN.{length, getD, drop, length-append, length-drop}
 use lib.Seq.{sets}
 use Rattle.pack.proofs.flat.own_groups.Statement.{statement}
 use Rattle.pack.proofs.flat.own_groups.Tie as tie
-use Rattle.pack.proofs.flat.own_groups.Reads as reads
-use Rattle.pack.proofs.flat.own_groups.Lts as lts
-use Rattle.pack.proofs.flat.members.Reads as members-reads
 
 -- the groups that are left written into an array from here leave what all of them leave
 abbrev Rest : List ℕ → ℕ → ℕ → ℕ → ℕ → List ℕ → (Position × ℕ → ℕ) → List ℕ → List ℕ → Type 0
@@ -28,21 +26,27 @@ Inv-loop s base place next first i n at₀ outer₀ inner₀ height₀ c₀ k₀
 abbrev μ-loop : tie.MeasureT-loop
 μ-loop s base place next first i n at₀ outer₀ inner₀ height₀ c₀ k₀ at outer inner height c k = ahead c
 
--- src/flat.rt:140:17
+-- the group that the walk has come to, one before c
+found : (c : tie.In-loop Inv-loop μ-loop) → Found (c .before .before .before .before .args .s .now) (c .before .before .before .before .args .base) (c .before .before .before .before .args .i) (c .before .loop .inv .0 .gs) (c .before .loop .inv .1) (c .before .loop .c - 1)
+found c =
+    let l = c .before .loop in
+    let a = c .before .before .before .before .args in
+    found-at (a .s .now) (a .base) (a .i) (l .inv .0 .gs) (l .inv .1) (l .c - 1) (sym (l .inv .2) ∙ omega arith)
+
+early : (c : tie.In-loop Inv-loop μ-loop) → c .before .loop .c ≤ 1024
+early c = omega (arith, found c .in-list, c .before .loop .inv .0 .few)
+
 mul-c : tie.Need-mul-c Inv-loop μ-loop
 mul-c c = omega arith
 
--- src/flat.rt:140:17
 element-copy-out-c : tie.Need-element-copy-out-c Inv-loop μ-loop
 element-copy-out-c c = omega arith
 
--- src/flat.rt:140:17
 cast-c : tie.Need-cast-c Inv-loop μ-loop
 cast-c c =
     let ch = c .before .before .pre .0 in
     omega (arith, ch .head, ch .few, first-le (c .before .before .args .s .now) (c .before .before .args .i) (ch .gs) 0)
 
--- src/flat.rt:142:5
 loop-holds : tie.Need-loop-holds Inv-loop μ-loop
 loop-holds c =
     let a = c .before .before .args in
@@ -50,37 +54,15 @@ loop-holds c =
     let e = ch .complete (a .base) in
     (ch, 0, ch .head, rw e, rw e, rw e, rw e, rw e)
 
--- src/flat.rt:143:36
 sub-members : tie.Need-sub-members Inv-loop μ-loop
 sub-members c = omega arith
 
--- src/flat.rt:143:30
 mul-members : tie.Need-mul-members Inv-loop μ-loop
-mul-members c =
-    let l = c .before .loop in
-    let a = c .before .before .before .before .args in
-    let s = a .s .now in
-    let ch = l .inv .0 in
-    let m = l .c - 1 in
-    let e : firstFrom s (a .i) (l .inv .1) (drop (l .inv .1) (ch .gs)) ≡ suc m = sym (l .inv .2) ∙ omega arith in
-    let y = next-from s (a .base) (a .i) (ch .gs) (l .inv .1) m e in
-    let b = ch .few in
-    omega (arith, y .1)
+mul-members c = omega (arith, early c)
 
--- src/flat.rt:143:30
 element-copy-out-members : tie.Need-element-copy-out-members Inv-loop μ-loop
-element-copy-out-members c =
-    let l = c .before .loop in
-    let a = c .before .before .before .before .args in
-    let s = a .s .now in
-    let ch = l .inv .0 in
-    let m = l .c - 1 in
-    let e : firstFrom s (a .i) (l .inv .1) (drop (l .inv .1) (ch .gs)) ≡ suc m = sym (l .inv .2) ∙ omega arith in
-    let y = next-from s (a .base) (a .i) (ch .gs) (l .inv .1) m e in
-    let b = ch .few in
-    omega (arith, y .1)
+element-copy-out-members c = omega (arith, early c)
 
--- src/flat.rt:143:30
 cast-members : tie.Need-cast-members Inv-loop μ-loop
 cast-members c =
     let l = c .before .before .loop in
@@ -88,13 +70,9 @@ cast-members c =
     let s = a .s .now in
     let ch = l .inv .0 in
     let m = l .c - 1 in
-    let e : firstFrom s (a .i) (l .inv .1) (drop (l .inv .1) (ch .gs)) ≡ suc m = sym (l .inv .2) ∙ omega arith in
-    let y = next-from s (a .base) (a .i) (ch .gs) (l .inv .1) m e in
-    let b = ch .few in
-    let p = ch .places m (y .1) in
-    omega (arith, ch .good m (y .1), group-grows s (getD (ch .gs) m 0))
+    let y = found (c .before) in
+    omega (arith, ch .places m (y .in-list), ch .good m (y .in-list), group-grows s (getD (ch .gs) m 0))
 
--- src/flat.rt:143:9
 members-requires : tie.Need-members-requires Inv-loop μ-loop
 members-requires c κs =
     let l = c .before .before .before .before .before .before .loop in
@@ -102,44 +80,20 @@ members-requires c κs =
     let s = a .s .now in
     let ch = l .inv .0 in
     let m = l .c - 1 in
-    let e : firstFrom s (a .i) (l .inv .1) (drop (l .inv .1) (ch .gs)) ≡ suc m = sym (l .inv .2) ∙ omega arith in
-    let y = next-from s (a .base) (a .i) (ch .gs) (l .inv .1) m e in
-    let p = ch .places m (y .1) in
+    let y = found (c .before .before .before .before .before) in
     let q = c .before .before .before .before .before .before .before .before .before .pre .1 in
-    let w = ap length (y .3) ∙ length-append (items s (a .base) (a .i) (getD (ch .gs) m 0)) (own s (a .base) (a .i) (drop (m + 1) (ch .gs))) in
-    rw p (omega (arith, w, items-length s (a .base) (a .i) (getD (ch .gs) m 0), l .inv .3, q .1), ch .good m (y .1), q .2)
+    let w = ap length (y .splits) ∙ length-append (items s (a .base) (a .i) (getD (ch .gs) m 0)) (own s (a .base) (a .i) (drop (m + 1) (ch .gs))) in
+    rw (ch .places m (y .in-list)) (omega (arith, w, items-length s (a .base) (a .i) (getD (ch .gs) m 0), l .inv .3, q .1), ch .good m (y .in-list), q .2)
 
--- src/flat.rt:144:18
 sub-c : tie.Need-sub-c Inv-loop μ-loop
 sub-c c = omega arith
 
--- src/flat.rt:144:13
 mul-c-2 : tie.Need-mul-c-2 Inv-loop μ-loop
-mul-c-2 c =
-    let l = c .before .before .before .before .before .before .before .loop in
-    let a = c .before .before .before .before .before .before .before .before .before .before .args in
-    let s = a .s .now in
-    let ch = l .inv .0 in
-    let m = l .c - 1 in
-    let e : firstFrom s (a .i) (l .inv .1) (drop (l .inv .1) (ch .gs)) ≡ suc m = sym (l .inv .2) ∙ omega arith in
-    let y = next-from s (a .base) (a .i) (ch .gs) (l .inv .1) m e in
-    let b = ch .few in
-    omega (arith, y .1)
+mul-c-2 c = omega (arith, early (c .before .before .before .before .before .before))
 
--- src/flat.rt:144:13
 element-copy-out-c-2 : tie.Need-element-copy-out-c-2 Inv-loop μ-loop
-element-copy-out-c-2 c =
-    let l = c .before .before .before .before .before .before .before .loop in
-    let a = c .before .before .before .before .before .before .before .before .before .before .args in
-    let s = a .s .now in
-    let ch = l .inv .0 in
-    let m = l .c - 1 in
-    let e : firstFrom s (a .i) (l .inv .1) (drop (l .inv .1) (ch .gs)) ≡ suc m = sym (l .inv .2) ∙ omega arith in
-    let y = next-from s (a .base) (a .i) (ch .gs) (l .inv .1) m e in
-    let b = ch .few in
-    omega (arith, y .1)
+element-copy-out-c-2 c = omega (arith, early (c .before .before .before .before .before .before))
 
--- src/flat.rt:144:13
 cast-c-2 : tie.Need-cast-c-2 Inv-loop μ-loop
 cast-c-2 c =
     let l = c .before .before .before .before .before .before .before .before .loop in
@@ -147,13 +101,9 @@ cast-c-2 c =
     let s = a .s .now in
     let ch = l .inv .0 in
     let m = l .c - 1 in
-    let e : firstFrom s (a .i) (l .inv .1) (drop (l .inv .1) (ch .gs)) ≡ suc m = sym (l .inv .2) ∙ omega arith in
-    let y = next-from s (a .base) (a .i) (ch .gs) (l .inv .1) m e in
-    let b = ch .few in
-    let p = ch .links m (y .1) in
-    omega (arith, y .1, first-le s (le 4 s (getD (ch .gs) m 0)) (drop (m + 1) (ch .gs)) (m + 1), length-drop (m + 1) (ch .gs))
+    let y = found (c .before .before .before .before .before .before .before) in
+    omega (arith, ch .links m (y .in-list), early (c .before .before .before .before .before .before .before), ch .few, first-le s (le 4 s (getD (ch .gs) m 0)) (drop (m + 1) (ch .gs)) (m + 1), length-drop (m + 1) (ch .gs))
 
--- src/flat.rt:142:5
 loop-less : tie.Need-loop-less Inv-loop μ-loop
 loop-less c =
     let l = c .before .before .before .before .before .before .before .before .loop in
@@ -161,12 +111,11 @@ loop-less c =
     let s = a .s .now in
     let ch = l .inv .0 in
     let m = l .c - 1 in
-    let e : firstFrom s (a .i) (l .inv .1) (drop (l .inv .1) (ch .gs)) ≡ suc m = sym (l .inv .2) ∙ omega arith in
-    let y = next-from s (a .base) (a .i) (ch .gs) (l .inv .1) m e in
-    let b = ch .few in
-    nearer (l .c) (getD (a .next .now) m 0) (omega arith) (omega (arith, y .1)) (λ z. let x = first-later s (le 4 s (getD (ch .gs) m 0)) (drop (m + 1) (ch .gs)) (m + 1) (λ q. z (ch .links m (y .1) ∙ q)) in omega (arith, x, ch .links m (y .1)))
+    let y = found (c .before .before .before .before .before .before .before) in
+    let next = ch .links m (y .in-list) in
+    nearer (l .c) (getD (a .next .now) m 0) (omega arith) (early (c .before .before .before .before .before .before .before))
+    (λ z. omega (arith, next, first-later s (le 4 s (getD (ch .gs) m 0)) (drop (m + 1) (ch .gs)) (m + 1) (λ q. z (next ∙ q))))
 
--- src/flat.rt:142:5
 loop-again : tie.Need-loop-again Inv-loop μ-loop
 loop-again c =
     let l = c .before .before .before .before .before .before .before .before .loop in
@@ -174,25 +123,22 @@ loop-again c =
     let s = a .s .now in
     let ch = l .inv .0 in
     let m = l .c - 1 in
-    let e : firstFrom s (a .i) (l .inv .1) (drop (l .inv .1) (ch .gs)) ≡ suc m = sym (l .inv .2) ∙ omega arith in
-    let y = next-from s (a .base) (a .i) (ch .gs) (l .inv .1) m e in
-    let p = ch .places m (y .1) in
-    let g = getD (ch .gs) m 0 in
-    let xs = items s (a .base) (a .i) g in
+    let y = found (c .before .before .before .before .before .before .before) in
+    let xs = items s (a .base) (a .i) (getD (ch .gs) m 0) in
     let rest = own s (a .base) (a .i) (drop (m + 1) (ch .gs)) in
-    let w = ap length (y .3) ∙ length-append xs rest in
-    let v = rw p at (c .before .members .ensures) in (
+    let w = ap length (y .splits) ∙ length-append xs rest in
+    let v = rw (ch .places m (y .in-list)) at (c .before .members .ensures) in
+    let n = c .before .members .result in (
       ch,
       m + 1,
-      ch .links m (y .1) ∙ rw (y .2),
+      ch .links m (y .in-list) ∙ rw (y .names),
       omega (arith, w, v .count, l .inv .3),
-      wrote-more atOf (l .at) _ (l .k) (c .before .members .result) xs rest (v .ats) (v .count) ∙ rw (← y .3) (l .inv .4),
-      wrote-more outerOf (l .outer) _ (l .k) (c .before .members .result) xs rest (v .outers) (v .count) ∙ rw (← y .3) (l .inv .5),
-      wrote-more innerOf (l .inner) _ (l .k) (c .before .members .result) xs rest (v .inners) (v .count) ∙ rw (← y .3) (l .inv .6),
-      wrote-more heightOf (l .height) _ (l .k) (c .before .members .result) xs rest (v .heights) (v .count) ∙ rw (← y .3) (l .inv .7),
+      wrote-more atOf (l .at) _ (l .k) n xs rest (v .ats) (v .count) ∙ rw (← y .splits) (l .inv .4),
+      wrote-more outerOf (l .outer) _ (l .k) n xs rest (v .outers) (v .count) ∙ rw (← y .splits) (l .inv .5),
+      wrote-more innerOf (l .inner) _ (l .k) n xs rest (v .inners) (v .count) ∙ rw (← y .splits) (l .inv .6),
+      wrote-more heightOf (l .height) _ (l .k) n xs rest (v .heights) (v .count) ∙ rw (← y .splits) (l .inv .7),
     )
 
--- src/flat.rt:135:1
 returns : tie.Need-returns Inv-loop μ-loop
 returns c = let l = c .before .loop in
     let a = c .before .before .before .before .args in

@@ -1,3 +1,5 @@
+-- The index bytes start 8 bytes on; past the end of the pack there are none.
+-- Assumes nothing.
 use Rattle.wire.specs.Le.{le}
 use Prim.Native.Nat.{_+_}
 use Rattle.pack.proofs.Parts.{past}
@@ -7,16 +9,10 @@ use native.Mathlib.Omega.{arith}
 use borrow.Author.Needs.{needs}
 use Rattle.pack.proofs.item.accounts.Statement.{statement}
 use Rattle.pack.proofs.item.accounts.Tie as tie
-use Rattle.pack.proofs.item.accounts.Reads as reads
-use Rattle.pack.proofs.item.accounts.Lts as lts
-use Rattle.pack.proofs.item.part.Reads as part-reads
-use Rattle.wire.proofs.u16_at.Reads as u16-at-reads
 
--- src/item.rt:33:9
 slice-aggregate-result : tie.Need-slice-aggregate-result
 slice-aggregate-result c = search needs
 
--- src/item.rt:33:9
 returns : tie.Need-returns
 unfolding instructionAt
 returns c =
@@ -24,27 +20,21 @@ returns c =
     let p = a .pack .now in
     sym (past (le 2 p (a .at + 4)) (a .at + 8) p (omega arith))
 
--- src/item.rt:35:16
 add-part : tie.Need-add-part
 add-part c = search needs
 
--- src/item.rt:35:43
 add-u16-at : tie.Need-add-u16-at
 add-u16-at c = search needs
 
--- src/item.rt:35:24
 u16-at-requires : tie.Need-u16-at-requires
 u16-at-requires c κs = search needs
 
--- src/item.rt:35:24
 cast-part : tie.Need-cast-part
 cast-part c = search needs
 
--- src/item.rt:35:5
 part-requires : tie.Need-part-requires
 part-requires c κs = search needs
 
--- src/item.rt:29:1
 returns-2 : tie.Need-returns-2
 unfolding instructionAt
 returns-2 c = c .part .ensures ∙ rw (c .before .u16-at .ensures)

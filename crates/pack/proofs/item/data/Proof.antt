@@ -1,3 +1,5 @@
+-- The data follows the index bytes; past the end of the pack there is none.
+-- Assumes nothing.
 use Rattle.wire.specs.Le.{le}
 use Prim.Native.Nat.{_+_}
 use Rattle.pack.proofs.Parts.{past}
@@ -7,16 +9,10 @@ use native.Mathlib.Omega.{arith}
 use borrow.Author.Needs.{needs}
 use Rattle.pack.proofs.item.data.Statement.{statement}
 use Rattle.pack.proofs.item.data.Tie as tie
-use Rattle.pack.proofs.item.data.Reads as reads
-use Rattle.pack.proofs.item.data.Lts as lts
-use Rattle.pack.proofs.item.part.Reads as part-reads
-use Rattle.wire.proofs.u16_at.Reads as u16-at-reads
 
--- src/item.rt:43:9
 slice-aggregate-result : tie.Need-slice-aggregate-result
 slice-aggregate-result c = search needs
 
--- src/item.rt:43:9
 returns : tie.Need-returns
 unfolding instructionAt
 returns c =
@@ -24,43 +20,33 @@ returns c =
     let p = a .pack .now in
     sym (past (le 2 p (a .at + 6)) (a .at + 8 + le 2 p (a .at + 4)) p (omega arith))
 
--- src/item.rt:45:16
 add-part : tie.Need-add-part
 add-part c = search needs
 
--- src/item.rt:45:44
 add-u16-at : tie.Need-add-u16-at
 add-u16-at c = search needs
 
--- src/item.rt:45:25
 u16-at-requires : tie.Need-u16-at-requires
 u16-at-requires c κs = search needs
 
--- src/item.rt:45:25
 cast-part : tie.Need-cast-part
 cast-part c = search needs
 
--- src/item.rt:45:16
 add-part-2 : tie.Need-add-part-2
 add-part-2 c = search needs
 
--- src/item.rt:45:81
 add-u16-at-2 : tie.Need-add-u16-at-2
 add-u16-at-2 c = search needs
 
--- src/item.rt:45:62
 u16-at-requires-2 : tie.Need-u16-at-requires-2
 u16-at-requires-2 c κs = search needs
 
--- src/item.rt:45:62
 cast-part-2 : tie.Need-cast-part-2
 cast-part-2 c = search needs
 
--- src/item.rt:45:5
 part-requires : tie.Need-part-requires
 part-requires c κs = search needs
 
--- src/item.rt:39:1
 returns-2 : tie.Need-returns-2
 unfolding instructionAt
 returns-2 c = c .part .ensures ∙ rw (c .before .u16-at2 .ensures, c .before .before .u16-at .ensures)

@@ -1,3 +1,5 @@
+-- The last four bytes against the mark, once the size is taken.
+-- Assumes nothing.
 use Prim.Native.Nat.{_-_, _≤_}
 use lib.ListN.{length, drop, length-drop}
 use lib.Seq.{take-all}
@@ -8,45 +10,33 @@ use native.Mathlib.Omega.{arith}
 use borrow.Author.Needs.{needs}
 use Rattle.pack.proofs.trailer.marked.Statement.{statement}
 use Rattle.pack.proofs.trailer.marked.Tie as tie
-use Rattle.pack.proofs.trailer.marked.Reads as reads
-use Rattle.pack.proofs.trailer.marked.Lts as lts
-use Rattle.wire.proofs.equal.Reads as equal-reads
 
--- src/trailer.rt:12:9
 returns : tie.Need-returns
 unfolding marked mark
 returns c = simp (lt-leb _ _ (c .if1 .taken))
 
--- src/trailer.rt:15:9
 returns-2 : tie.Need-returns-2
 unfolding marked mark
 returns-2 c = simp (le-leb _ _ (c .before .if1 .left), lt-leb _ _ (c .if2 .taken))
 
--- src/trailer.rt:17:14
 sub-at : tie.Need-sub-at
 sub-at c = search needs
 
--- src/trailer.rt:18:17
 sub-equal : tie.Need-sub-equal
 sub-equal c = search needs
 
--- src/trailer.rt:18:17
 part-equal-start : tie.Need-part-equal-start
 part-equal-start c = search needs
 
--- src/trailer.rt:18:17
 part-equal-end : tie.Need-part-equal-end
 part-equal-end c = search needs
 
--- src/trailer.rt:18:30
 slice-aggregate-equal : tie.Need-slice-aggregate-equal
 slice-aggregate-equal c = search needs
 
--- src/trailer.rt:18:5
 equal-requires : tie.Need-equal-requires
 equal-requires c κs = search needs
 
--- src/trailer.rt:8:1
 returns-3 : tie.Need-returns-3
 unfolding marked mark
 returns-3 c =

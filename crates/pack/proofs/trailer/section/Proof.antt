@@ -1,73 +1,57 @@
+-- Each return is the definition under the tests that led to it.
+-- Assumes nothing.
 use Rattle.pack.specs.Sections.{sectionOf, hasSection}
 use borrow.Author.Tests.{lt-ltb, le-ltb, lt-leb, le-leb}
 use borrow.Author.Needs.{needs}
 use Rattle.pack.proofs.trailer.section.Statement.{statement}
 use Rattle.pack.proofs.trailer.section.Tie as tie
-use Rattle.pack.proofs.trailer.section.Reads as reads
-use Rattle.pack.proofs.trailer.section.Lts as lts
-use Rattle.pack.proofs.trailer.start.Reads as start-reads
 
--- src/trailer.rt:58:9
 slice-aggregate-result : tie.Need-slice-aggregate-result
 slice-aggregate-result c = search needs
 
--- src/trailer.rt:58:9
 returns : tie.Need-returns
 unfolding sectionOf hasSection
 returns c = simp (lt-leb _ _ (c .before .if1 .taken))
 
--- src/trailer.rt:61:9
 slice-aggregate-result-2 : tie.Need-slice-aggregate-result-2
 slice-aggregate-result-2 c = search needs
 
--- src/trailer.rt:61:9
 returns-2 : tie.Need-returns-2
 unfolding sectionOf hasSection
 returns-2 c = simp (le-leb _ _ (c .before .before .if1 .left), le-ltb _ _ (c .before .if2 .taken))
 
--- src/trailer.rt:63:9
 start-requires : tie.Need-start-requires
 start-requires c κs = search needs
 
--- src/trailer.rt:64:26
 add-start : tie.Need-add-start
 add-start c = search needs
 
--- src/trailer.rt:64:9
 start-requires-2 : tie.Need-start-requires-2
 start-requires-2 c κs = search needs
 
--- src/trailer.rt:66:9
 slice-aggregate-result-3 : tie.Need-slice-aggregate-result-3
 slice-aggregate-result-3 c = search needs
 
--- src/trailer.rt:66:9
 returns-3 : tie.Need-returns-3
 unfolding sectionOf hasSection
 returns-3 c = simp (← c .before .before .before .start .ensures, ← c .before .before .start2 .ensures, le-leb _ _ (c .before .before .before .before .before .if1 .left), lt-ltb _ _ (c .before .before .before .before .if2 .left), lt-leb _ _ (c .before .if3 .taken))
 
--- src/trailer.rt:68:8
 sub-if4 : tie.Need-sub-if4
 sub-if4 c = search needs
 
--- src/trailer.rt:69:9
 slice-aggregate-result-4 : tie.Need-slice-aggregate-result-4
 slice-aggregate-result-4 c = search needs
 
--- src/trailer.rt:69:9
 returns-4 : tie.Need-returns-4
 unfolding sectionOf hasSection
 returns-4 c = simp (← c .before .before .before .before .start .ensures, ← c .before .before .before .start2 .ensures, le-leb _ _ (c .before .before .before .before .before .before .if1 .left), lt-ltb _ _ (c .before .before .before .before .before .if2 .left), le-leb _ _ (c .before .before .if3 .left), lt-leb _ _ (c .before .if4 .taken))
 
--- src/trailer.rt:71:5
 part-result-start : tie.Need-part-result-start
 part-result-start c = search needs
 
--- src/trailer.rt:71:5
 part-result-end : tie.Need-part-result-end
 part-result-end c = search needs
 
--- src/trailer.rt:54:1
 returns-5 : tie.Need-returns-5
 unfolding sectionOf hasSection
 returns-5 c = simp (← c .before .before .before .before .start .ensures, ← c .before .before .before .start2 .ensures, le-leb _ _ (c .before .before .before .before .before .before .if1 .left), lt-ltb _ _ (c .before .before .before .before .before .if2 .left), le-leb _ _ (c .before .before .if3 .left), le-leb _ _ (c .before .if4 .left))

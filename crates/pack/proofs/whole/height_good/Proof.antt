@@ -1,37 +1,28 @@
-use Rattle.pack.specs.Items.{heightGood, itemEnd}
-use Rattle.wire.specs.Le.{le}
-use mathlib.Core.Path.{_≡_, refl, sym, _∙_}
+-- The flag decides which test is left.
+-- Assumes nothing.
+use Rattle.pack.specs.Items.{heightGood}
+use mathlib.Core.Path.{sym, _∙_}
 use borrow.Author.Tests.{eq-eqb, ne-eqb}
 use lib.ListN.{getD}
-use native.Mathlib.Omega.{arith}
 use borrow.Author.Needs.{needs}
 use Rattle.pack.proofs.whole.height_good.Statement.{statement}
 use Rattle.pack.proofs.whole.height_good.Tie as tie
-use Rattle.pack.proofs.whole.height_good.Reads as reads
-use Rattle.pack.proofs.whole.height_good.Lts as lts
-use Rattle.wire.proofs.byte.Reads as byte-reads
-use Rattle.wire.proofs.u32_at.Reads as u32-at-reads
 
--- src/whole.rt:66:9
 byte-requires : tie.Need-byte-requires
 byte-requires c κs = search needs
 
--- src/whole.rt:68:32
 add-u32-at : tie.Need-add-u32-at
 add-u32-at c = search needs
 
--- src/whole.rt:68:16
 u32-at-requires : tie.Need-u32-at-requires
 u32-at-requires c κs = search needs
 
--- src/whole.rt:68:9
 returns : tie.Need-returns
 unfolding heightGood
 returns c =
     let a = c .before .before .before .before .args in
     rw (c .u32-at .ensures, eq-eqb (getD (a .s .now) (a .at) 0) 0 (sym (c .before .before .byte .ensures) ∙ c .before .if1 .taken))
 
--- src/whole.rt:62:1
 returns-2 : tie.Need-returns-2
 unfolding heightGood
 returns-2 c =

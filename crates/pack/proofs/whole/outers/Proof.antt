@@ -1,17 +1,14 @@
+-- What the rest of the section counts from here is what the whole counts.
+-- Assumes nothing.
 use Rattle.pack.proofs.Walk.{item-grows, outersCount, outers-ended, outers-cut, outers-more}
-use Rattle.pack.specs.Invocation.{instructionAt}
-use Rattle.pack.specs.Items.{outersFrom, outersAt}
 use Rattle.pack.specs.View.{outerIn}
-use Prim.Native.Nat.{ℕ, suc, _+_, _-_, _<_, _≤_}
+use Prim.Native.Nat.{suc, _-_, _≤_}
 use native.Mathlib.Nat.{sub-zero, zero-add}
-use mathlib.Core.Path.{_≡_, refl, sym, ap, _∙_}
+use mathlib.Core.Path.{_≡_, sym, _∙_}
 use native.Mathlib.Omega.{arith}
 use lib.ListN.{length, length-map}
 use Rattle.pack.proofs.whole.outers.Statement.{statement}
 use Rattle.pack.proofs.whole.outers.Tie as tie
-use Rattle.pack.proofs.whole.outers.Reads as reads
-use Rattle.pack.proofs.whole.outers.Lts as lts
-use Rattle.pack.proofs.item_end.Reads as item-end-reads
 
 abbrev Inv-loop : tie.InvT-loop
 Inv-loop s at₀ n₀ at n = (at ≤ length s) × (n ≤ at) × (outersCount s (suc (length s) - n) at n ≡ outersCount s (suc (length s)) 0 0)
@@ -19,15 +16,12 @@ Inv-loop s at₀ n₀ at n = (at ≤ length s) × (n ≤ at) × (outersCount s (
 abbrev μ-loop : tie.MeasureT-loop
 μ-loop s at₀ n₀ at n = length s - at
 
--- src/whole.rt:50:5
 loop-holds : tie.Need-loop-holds Inv-loop μ-loop
 loop-holds c = (omega arith, omega arith, simp sub-zero)
 
--- src/whole.rt:51:13
 item-end-requires : tie.Need-item-end-requires Inv-loop μ-loop
 item-end-requires c κs = omega arith
 
--- src/whole.rt:53:13
 returns : tie.Need-returns Inv-loop μ-loop
 unfolding outerIn
 returns c =
@@ -35,15 +29,12 @@ returns c =
     let s = c .before .before .before .before .before .args .s .now in
     sym (outers-cut s (l .at) (l .n) (omega arith) (omega arith) (omega (arith, c .before .item-end .ensures))) ∙ l .inv .2 ∙ rw (length-map, zero-add)
 
--- src/whole.rt:56:9
 add-n : tie.Need-add-n Inv-loop μ-loop
 add-n c = let l = c .before .before .before .loop in omega (arith, c .before .item-end .ensures, item-grows (c .before .before .before .before .before .args .s .now) (l .at))
 
--- src/whole.rt:50:5
 loop-less : tie.Need-loop-less Inv-loop μ-loop
 loop-less c = let l = c .before .before .before .loop in omega (arith, c .before .item-end .ensures, item-grows (c .before .before .before .before .before .args .s .now) (l .at))
 
--- src/whole.rt:50:5
 loop-again : tie.Need-loop-again Inv-loop μ-loop
 loop-again c =
     let l = c .before .before .before .loop in
@@ -52,7 +43,6 @@ loop-again c =
     let g = item-grows s (l .at) in
     (omega arith, omega (arith, e), rw e (outers-more s (l .at) (l .n) (omega arith) (omega arith) (omega (arith, e)) ∙ l .inv .2))
 
--- src/whole.rt:45:1
 returns-2 : tie.Need-returns-2 Inv-loop μ-loop
 unfolding outerIn
 returns-2 c =

@@ -1,8 +1,8 @@
 use native.Mathlib.Omega.{arith}
 use Rattle.route.proofs.Moving.{count-le, row-counted, row-placed}
 use Rattle.route.specs.Known.{mintAt}
-use Rattle.route.specs.Transfers.{transferOf, transferRows, sourceOf}
-use Rattle.token.specs.Moved.{valueOf}
+use Rattle.route.specs.Transfers.{transferOf, transferRows}
+use Rattle.token.specs.Moved.{valueOf, sourceBy}
 use Rattle.token.specs.Rows.{mintOf}
 use Rattle.evidence.specs.MintTable.{mintIn}
 use Rattle.pack.specs.Invocation.{instructionAt}
@@ -19,8 +19,8 @@ use Rattle.pack.proofs.data.Reads as data-reads
 use Rattle.pack.proofs.program.Reads as item-program-reads
 use Rattle.route.proofs.transfers.count.Reads as count-reads
 use Rattle.route.proofs.transfers.mint.Reads as mint-reads
-use Rattle.route.proofs.transfers.source.Reads as source-reads
-use Rattle.token.proofs.put_row.Reads as put-row-reads
+use Rattle.token.proofs.source.Reads as source-reads
+use Rattle.token.proofs.row.put_row.Reads as put-row-reads
 use Rattle.token.proofs.transfer.Reads as transfer-reads
 
 -- src/transfers.rt:46:9
@@ -83,7 +83,7 @@ returns c =
     let a = c .before .before .before .before .before .before .before .before .before .before .before .before .before .before .before .before .args in
     let moved = c .before .before .before .before .before .before .before .transfer .result in
     let program = keyOf (a .keys .now) (instructionAt (a .pack .now) (a .at) .program) in
-    let mint = mintOf (mintAt (a .mints .now) (sourceOf moved)) in
+    let mint = mintOf (mintAt (a .mints .now) (sourceBy moved)) in
     record {
       few = rw (c .count .ensures) (count-le moved);
       counted =
@@ -93,7 +93,7 @@ returns c =
       rows =
           λ table h.
           rw (c .before .before .before .put-row .ensures, c .before .before .before .before .mint .ensures, c .before .before .before .before .before .source .ensures, c .before .before .before .before .before .before .before .before .before .before .before .program .ensures)
-          (row-placed (keyOf (a .keys .now)) (mintIn table) (a .i) program mint moved (h (sourceOf moved) (rw (← (c .before .before .before .before .before .source .ensures)) (omega arith))) (a .out .now) (a .k) ∙ rw (value c));
+          (row-placed (keyOf (a .keys .now)) (mintIn table) (a .i) program mint moved (h (sourceBy moved) (rw (← (c .before .before .before .before .before .source .ensures)) (omega arith))) (a .out .now) (a .k) ∙ rw (value c));
     }
 
 pub put-one-spec : {M : Type 1} → statement M
