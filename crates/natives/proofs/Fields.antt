@@ -1,0 +1,49 @@
+-- A row is written field by field, and each field begins where the one before it ends.
+-- Assumes nothing.
+use mathlib.Core.Path.{_≡_, refl}
+use mathlib.Core.List.{List, [], _∷_, _++_}
+use Prim.Native.Nat.{ℕ, _+_, _*_}
+use native.Mathlib.Omega.{arith}
+use lib.ListN.{length, set, length-append}
+use lib.Seq.{sets}
+use Rattle.wire.specs.Sets.{sets-next}
+use Rattle.wire.specs.Le.{leBytes}
+use Rattle.wire.proofs.Laws.{leBytes-length}
+use Rattle.ids.specs.Keys.{Key, zeroKey, keyOf}
+use Rattle.token.proofs.Fields.{key-length}
+use Rattle.natives.specs.Natives.{given}
+use Rattle.natives.specs.Numbers.{valueOf}
+use Rattle.natives.specs.Rows.{fieldsOf, rowsOf}
+use Rattle.natives.specs.declared.Native.{Native}
+use Rattle.natives.specs.declared.Native.the-variants.{Nothing, Fund, Sync, Close}
+
+pub fields : (l : List ℕ) (at i kind : ℕ) (h o a : Key) (n : ℕ) → length h ≡ 32 → length o ≡ 32 → length a ≡ 32 → sets (sets (sets (sets (set (sets l at (leBytes 4 i)) (at + 4) kind) (at + 5) h) (at + 37) o) (at + 69) a) (at + 101) (leBytes 8 n) ≡ sets l at (fieldsOf i kind h o a n)
+unfolding fieldsOf
+fields l at i kind h o a n hh ho ha =
+    let b = leBytes 4 i in
+    let hb : length (leBytes 4 i) ≡ 4 = leBytes-length 4 i in
+    let told : set (sets l at b) (at + 4) kind ≡ sets l at (b ++ (kind ∷ [])) = sets-next l at b (kind ∷ []) (at + 4) (rw hb) in
+    rw (
+      told,
+      sets-next l at (b ++ (kind ∷ [])) h (at + 5) (simp length-append (omega arith)),
+      sets-next l at (b ++ (kind ∷ []) ++ h) o (at + 37) (simp length-append (omega arith)),
+      sets-next l at (b ++ (kind ∷ []) ++ h ++ o) a (at + 69) (simp length-append (omega arith)),
+    )
+    (sets-next l at (b ++ (kind ∷ []) ++ h ++ o ++ a) (leBytes 8 n) (at + 101) (simp length-append (omega arith)))
+
+-- a row has 109 bytes
+pub row-length : (i kind : ℕ) (h o a : Key) (n : ℕ) → length h ≡ 32 → length o ≡ 32 → length a ≡ 32 → length (fieldsOf i kind h o a n) ≡ 109
+unfolding fieldsOf
+row-length i kind h o a n hh ho ha = simp (length-append, leBytes-length, hh, ho, ha)
+
+zero-length : length zeroKey ≡ 32
+unfolding zeroKey
+zero-length = refl
+
+-- what an instruction adds to the table: rows of 109 bytes
+pub rows-length : (ks : List ℕ) (i : ℕ) (r : Native) → length (rowsOf i (valueOf (keyOf ks) r)) ≡ given (valueOf (keyOf ks) r) * 109
+rows-length ks i Nothing = refl
+rows-length ks i (Fund h s l) = row-length i 1 (keyOf ks h) (keyOf ks s) zeroKey l (key-length ks h) (key-length ks s) zero-length
+rows-length ks i (Sync h) = row-length i 2 (keyOf ks h) zeroKey zeroKey 0 (key-length ks h) zero-length zero-length
+rows-length ks i (Close h d a) =
+    row-length i 3 (keyOf ks h) (keyOf ks d) (keyOf ks a) 0 (key-length ks h) (key-length ks d) (key-length ks a)

@@ -1,0 +1,124 @@
+-- An action in numbers is the Rust's action: the accounts that it names are there, and only the acted account's mint is looked at.
+-- Assumes nothing.
+use mathlib.Core.Path.{_≡_, refl, sym, ap, subst, _∙_}
+use mathlib.Core.Bool.{Bool, true, false, cond, _&&_, not, and-false}
+use mathlib.Core.List.{List, [], _∷_}
+use mathlib.Core.Option.{Option, none, some}
+use Prim.Native.Nat.{ℕ, suc, _+_, _≤_, _<_}
+use native.Mathlib.Numerals.{add-one}
+use native.Mathlib.Omega.{arith}
+use lib.Dec.{ltb, leb, eqb}
+use lib.ListN.{length, getD, drop}
+use lib.Seq.{drop-cons, drop-length}
+use borrow.Author.Tests.{lt-ltb, le-ltb, leb-true}
+use Rattle.wire.specs.Same.{same, same-true}
+use Rattle.wire.specs.Below.{and-right}
+use Rattle.ids.specs.declared.Id.{Id}
+use Rattle.ids.specs.Ids.{ids, idAt}
+use Rattle.ids.specs.Keys.{Key, zeroKey, account}
+use Rattle.token.specs.Programs.{isToken}
+use Rattle.token.specs.Published.{starts}
+use Rattle.token.specs.Transfers.{isZero}
+use Rattle.token.specs.Rows.{mintOf}
+use Rattle.token.proofs.Laws.{there}
+use Rattle.natives.specs.Natives.{NativeAction, isSystem, funds, syncs, closes, asked, allBelow, wrapped, counted, nativeAction}
+use Rattle.natives.specs.Numbers.{valueOf, formOf, heldBy, actedOf, actionOf}
+use Rattle.natives.specs.declared.Native.{Native}
+use Rattle.natives.specs.declared.Native.the-variants.{Nothing, Fund, Sync, Close}
+
+module _ (κ : ℕ → Key) (id : Id) (accounts d : List ℕ) where
+  fund-floor : funds id (length accounts) d ≡ true → 2 ≤ length accounts
+  unfolding funds
+  fund-floor e = leb-true 2 (length accounts) (and-right (isSystem id && starts (2 ∷ 0 ∷ 0 ∷ 0 ∷ []) d && eqb (length d) 12) (leb 2 (length accounts)) e)
+
+  sync-floor : syncs id (length accounts) d ≡ true → 1 ≤ length accounts
+  unfolding syncs
+  sync-floor e = leb-true 1 (length accounts) (and-right (isToken id && same d (17 ∷ [])) (leb 1 (length accounts)) e)
+
+  close-floor : closes id (length accounts) d ≡ true → 3 ≤ length accounts
+  unfolding closes
+  close-floor e = leb-true 3 (length accounts) (and-right (isToken id && same d (9 ∷ [])) (leb 3 (length accounts)) e)
+
+  form-value : valueOf κ (formOf id accounts d) ≡ asked κ id accounts d
+  unfolding formOf asked
+  form-value = go (funds id (length accounts) d) refl (syncs id (length accounts) d) refl (closes id (length accounts) d) refl
+    where
+      go : (f : Bool) → funds id (length accounts) d ≡ f → (s : Bool) → syncs id (length accounts) d ≡ s → (c : Bool) → closes id (length accounts) d ≡ c → valueOf κ (formOf id accounts d) ≡ asked κ id accounts d
+      go true e s f c g = rw (e, there κ accounts 0 (omega (arith, fund-floor e)), there κ accounts 1 (omega (arith, fund-floor e)))
+      go false e true f c g = rw (e, f, there κ accounts 0 (omega (arith, sync-floor f)))
+      go false e false f true g = rw (e, f, g, there κ accounts 0 (omega (arith, close-floor g)), there κ accounts 1 (omega (arith, close-floor g)), there κ accounts 2 (omega (arith, close-floor g)))
+      go false e false f false g = rw (e, f, g)
+
+-- what counts of an action, by its number
+counted-value : (κ : ℕ → Key) (count : ℕ) (accounts : List ℕ) (μ : Key → Option Key) (f : Native) → counted count accounts μ (valueOf κ f) ≡ valueOf κ (cond (allBelow count accounts && wrapped (μ (κ (heldBy f)))) f Nothing)
+unfolding counted
+counted-value κ count accounts μ Nothing = go (allBelow count accounts && wrapped (μ (κ 0)))
+  where
+    go : (b : Bool) → none ≡ valueOf κ (cond b Nothing Nothing)
+    go true = refl
+    go false = refl
+counted-value κ count accounts μ (Fund h s l) = go (allBelow count accounts && wrapped (μ (κ h)))
+  where
+    go : (b : Bool) → cond b (valueOf κ (Fund h s l)) none ≡ valueOf κ (cond b (Fund h s l) Nothing)
+    go true = refl
+    go false = refl
+counted-value κ count accounts μ (Sync h) = go (allBelow count accounts && wrapped (μ (κ h)))
+  where
+    go : (b : Bool) → cond b (valueOf κ (Sync h)) none ≡ valueOf κ (cond b (Sync h) Nothing)
+    go true = refl
+    go false = refl
+counted-value κ count accounts μ (Close h d a) = go (allBelow count accounts && wrapped (μ (κ h)))
+  where
+    go : (b : Bool) → cond b (valueOf κ (Close h d a)) none ≡ valueOf κ (cond b (Close h d a) Nothing)
+    go true = refl
+    go false = refl
+
+-- the Rust's answer is that of the numbers, for the mint of the account that `acted` tells
+pub native-is : (κ : ℕ → Key) (count : ℕ) (id : Id) (accounts d : List ℕ) (μ : Key → Option Key) → nativeAction κ count id accounts d μ ≡ valueOf κ (actionOf count id accounts d (μ (κ (actedOf id accounts d))))
+unfolding nativeAction actionOf actedOf
+native-is κ count id accounts d μ = rw (← form-value κ id accounts d) (counted-value κ count accounts μ (formOf id accounts d))
+
+-- a mint that is handed over as bytes
+wsol-known : mintOf (idAt 2) ≡ some (idAt 2)
+unfolding mintOf isZero zeroKey ids same
+wsol-known = refl
+
+pub wrapped-mint : (m : List ℕ) → wrapped (mintOf m) ≡ same (idAt 2) m
+unfolding wrapped mintOf
+wrapped-mint m = go (same (idAt 2) m) refl (eqb (length m) 32 && not (isZero m)) refl
+  where
+    go : (b : Bool) → same (idAt 2) m ≡ b → (t : Bool) → (eqb (length m) 32 && not (isZero m)) ≡ t → wrapped (mintOf m) ≡ same (idAt 2) m
+    go true e t f = subst (λ (k : Key). wrapped (mintOf k) ≡ same (idAt 2) k) (same-true (idAt 2) m e) (rw wsol-known)
+    go false e true f = rw f
+    go false e false f = rw (f, e)
+
+-- the test of all indexes, from place i on
+module _ (count : ℕ) (l : List ℕ) (i : ℕ) where
+  pub below-next : i < length l → getD l i 0 < count → allBelow count (drop i l) ≡ allBelow count (drop (i + 1) l)
+  unfolding allBelow
+  below-next h e = rw (drop-cons l i 0 h, add-one i, lt-ltb (getD l i 0) count e)
+
+  pub below-stop : i < length l → count ≤ getD l i 0 → allBelow count (drop i l) ≡ false
+  unfolding allBelow
+  below-stop h e = rw (drop-cons l i 0 h, le-ltb (getD l i 0) count e)
+
+  pub below-end : i ≡ length l → allBelow count (drop i l) ≡ true
+  unfolding allBelow
+  below-end e = rw (e, drop-length l)
+
+module _ (κ : ℕ → Key) (count : ℕ) (id : Id) (accounts d m : List ℕ) where
+  -- a result that is the numbers' has the value that the Rust gives
+  pub tells : {r : Native} → r ≡ actionOf count id accounts d (mintOf m) → (r ≡ actionOf count id accounts d (mintOf m)) × (valueOf κ r ≡ nativeAction κ count id accounts d (λ _. mintOf m))
+  tells e = (e, ap (valueOf κ) e ∙ sym (native-is κ count id accounts d (λ _. mintOf m)))
+
+  pub other-mint : same (idAt 2) m ≡ false → Nothing ≡ actionOf count id accounts d (mintOf m)
+  unfolding actionOf
+  other-mint e = rw (wrapped-mint m, e, and-false)
+
+  pub no-key : allBelow count accounts ≡ false → Nothing ≡ actionOf count id accounts d (mintOf m)
+  unfolding actionOf
+  no-key e = rw e
+
+  pub is-form : same (idAt 2) m ≡ true → allBelow count accounts ≡ true → formOf id accounts d ≡ actionOf count id accounts d (mintOf m)
+  unfolding actionOf
+  is-form e f = rw (wrapped-mint m, e, f)

@@ -1,0 +1,3 @@
+pub mod Natives
+pub mod Numbers
+pub mod Rows

@@ -1,0 +1,42 @@
+-- An action in numbers: accounts by their index bytes. `valueOf` gives each case its value.
+-- Assumes nothing.
+use Prim.Native.Nat.{ℕ}
+use mathlib.Core.Bool.{cond, _&&_}
+use mathlib.Core.List.{List}
+use mathlib.Core.Option.{Option, none, some}
+use lib.ListN.{length, getD}
+use Rattle.wire.specs.Le.{le}
+use Rattle.ids.specs.declared.Id.{Id}
+use Rattle.ids.specs.Keys.{Key}
+use Rattle.natives.specs.Natives.{Action, fund, sync, close, NativeAction, funds, syncs, closes, allBelow, wrapped}
+use Rattle.natives.specs.declared.Native.{Native}
+use Rattle.natives.specs.declared.Native.the-variants.{Nothing, Fund, Sync, Close}
+
+-- the action that a case stands for; κ gives the key of an index
+abbrev pub valueOf : (ℕ → Key) → Native → Option NativeAction
+valueOf κ Nothing = none
+valueOf κ (Fund h s l) = some record { held = κ h; action = fund (κ s) l }
+valueOf κ (Sync h) = some record { held = κ h; action = sync }
+valueOf κ (Close h d a) = some record { held = κ h; action = close (κ d) (κ a) }
+
+-- what program, accounts and data ask for
+unfoldable pub formOf : Id → List ℕ → List ℕ → Native
+formOf id accounts d =
+    cond (funds id (length accounts) d) (Fund (getD accounts 1 0) (getD accounts 0 0) (le 8 d 4))
+    (cond (syncs id (length accounts) d) (Sync (getD accounts 0 0))
+    (cond (closes id (length accounts) d) (Close (getD accounts 0 0) (getD accounts 1 0) (getD accounts 2 0))
+    Nothing))
+
+-- the index of the account that is acted on; 0 where there is no action, whose mint then does not matter
+abbrev pub heldBy : Native → ℕ
+heldBy Nothing = 0
+heldBy (Fund h s l) = h
+heldBy (Sync h) = h
+heldBy (Close h d a) = h
+
+unfoldable pub actedOf : Id → List ℕ → List ℕ → ℕ
+actedOf id accounts d = heldBy (formOf id accounts d)
+
+-- what counts of it, for a key count and the acted account's mint
+unfoldable pub actionOf : ℕ → Id → List ℕ → List ℕ → Option Key → Native
+actionOf count id accounts d m = cond (allBelow count accounts && wrapped m) (formOf id accounts d) Nothing

@@ -1,0 +1,24 @@
+-- A row of the table of native actions, 109 bytes: invocation, kind, account, source or destination, authority, lamports. Absent fields are zero.
+-- Assumes nothing.
+use Prim.Native.Nat.{ℕ}
+use mathlib.Core.List.{List, [], _∷_, _++_}
+use mathlib.Core.Option.{Option, none, some}
+use Rattle.wire.specs.Le.{leBytes}
+use Rattle.ids.specs.Keys.{Key, zeroKey}
+use Rattle.natives.specs.Natives.{Action, fund, sync, close, NativeAction}
+
+-- one row's bytes
+unfoldable pub fieldsOf : ℕ → ℕ → Key → Key → Key → ℕ → List ℕ
+fieldsOf i kind held other authority lamports =
+    leBytes 4 i ++ (kind ∷ []) ++ held ++ other ++ authority ++ leBytes 8 lamports
+
+-- kinds: 1 fund, 2 sync, 3 close
+abbrev pub rowBy : ℕ → Key → Action → List ℕ
+rowBy i held (fund source lamports) = fieldsOf i 1 held source zeroKey lamports
+rowBy i held sync = fieldsOf i 2 held zeroKey zeroKey 0
+rowBy i held (close destination authority) = fieldsOf i 3 held destination authority 0
+
+-- the bytes that an instruction adds to the table
+abbrev pub rowsOf : ℕ → Option NativeAction → List ℕ
+rowsOf i none = []
+rowsOf i (some a) = rowBy i (a .held) (a .action)

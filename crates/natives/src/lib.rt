@@ -1,0 +1,203 @@
+// Native actions: funding, syncing and closing a wrapped SOL account, and the row of each.
+//
+// Every function is total. The acted account's final mint is handed in: `acted` tells whose it is.
+ghost use mathlib.Core.Path.{_≡_};
+ghost use mathlib.Core.Bool.{_&&_};
+ghost use mathlib.Core.List.{[], _∷_};
+ghost use Prim.Native.Nat.{_<_};
+ghost use lib.Dec.{leb, ltb};
+ghost use lib.ListN.{length};
+ghost use lib.Seq.{sets};
+ghost use Rattle.wire.specs.Same.{same};
+ghost use Rattle.ids.specs.Keys.{keyOf, keyCount};
+ghost use Rattle.token.specs.Programs.{isToken};
+ghost use Rattle.token.specs.Rows.{mintOf};
+ghost use Rattle.natives.specs.Natives.{isSystem, funds as fundsOf, allBelow, nativeAction};
+ghost use Rattle.natives.specs.Numbers.{valueOf, formOf, heldBy, actedOf, actionOf};
+ghost use Rattle.natives.specs.Rows.{fieldsOf, rowsOf};
+use ids::Id;
+
+// An action, its accounts by index bytes: fund (account, source, lamports), sync (account), close (account, destination, authority).
+pub enum Native {
+    Nothing,
+    Fund(u8, u8, u64),
+    Sync(u8),
+    Close(u8, u8, u8),
+}
+
+// A program that is not resolved has the zero key too, and is not System.
+fn system(id: Id) -> bool
+    ensures { λ r. ⌜ r ≡ isSystem id ⌝ }
+{
+    match id {
+        Id::System => true,
+        Id::Unresolved => false,
+        _ => false,
+    }
+}
+
+fn funds(id: Id, n: usize, data: &[u8]) -> bool
+    ensures { λ r. ⌜ r ≡ fundsOf id n (now («data» .entry)) ⌝ }
+{
+    if !system(id) {
+        return false;
+    }
+    if data.len() != 12 {
+        return false;
+    }
+    let tag = [2u8, 0, 0, 0];
+    if !wire::equal(&data[0..4], &tag) {
+        return false;
+    }
+    2 <= n
+}
+
+// An instruction of a token program that is one byte.
+fn lone(id: Id, tag: u8, n: usize, floor: usize, data: &[u8]) -> bool
+    ensures { λ r. ⌜ r ≡ (isToken id && same (now («data» .entry)) (tag ∷ []) && leb floor n) ⌝ }
+{
+    if !token::token_program(id) {
+        return false;
+    }
+    let want = [tag];
+    if !wire::equal(data, &want) {
+        return false;
+    }
+    floor <= n
+}
+
+// What program, accounts and data ask for.
+fn form(id: Id, accounts: &[u8], data: &[u8]) -> Native
+    ensures { λ r. ⌜ r ≡ formOf id (now (accounts .entry)) (now («data» .entry)) ⌝ }
+{
+    let n = accounts.len();
+    let first = wire::byte(accounts, 0);
+    let second = wire::byte(accounts, 1);
+    if funds(id, n, data) {
+        return Native::Fund(second, first, wire::u64_at(data, 4));
+    }
+    if lone(id, 17, n, 1, data) {
+        return Native::Sync(first);
+    }
+    if lone(id, 9, n, 3, data) {
+        return Native::Close(first, second, wire::byte(accounts, 2));
+    }
+    Native::Nothing
+}
+
+fn held(native: Native) -> u8
+    ensures { λ r. ⌜ r ≡ heldBy native ⌝ }
+{
+    match native {
+        Native::Nothing => 0,
+        Native::Fund(h, _, _) => h,
+        Native::Sync(h) => h,
+        Native::Close(h, _, _) => h,
+    }
+}
+
+// The index of the account that an instruction acts on, for its mint to be looked up; 0 where it acts on none.
+pub fn acted(id: Id, accounts: &[u8], data: &[u8]) -> u8
+    ensures { λ r. ⌜ r ≡ actedOf id (now (accounts .entry)) (now («data» .entry)) ⌝ }
+{
+    held(form(id, accounts, data))
+}
+
+// Every account index is that of a key, the unused ones too.
+fn all_below(count: usize, accounts: &[u8]) -> bool
+    ensures { λ r. ⌜ r ≡ allBelow count (now (accounts .entry)) ⌝ }
+{
+    let mut i = 0;
+    while i < accounts.len() {
+        if count <= wire::byte(accounts, i) as usize {
+            return false;
+        }
+        i += 1;
+    }
+    true
+}
+
+// The action that an instruction is, for the acted account's final mint (32 bytes, zero for none).
+pub fn action(id: Id, keys: &[u8], accounts: &[u8], data: &[u8], mint: &[u8]) -> Native
+    ensures { λ r. ⌜ (r ≡ actionOf (keyCount (now (keys .entry))) id (now (accounts .entry)) (now («data» .entry)) (mintOf (now (mint .entry)))) × (valueOf (keyOf (now (keys .entry))) r ≡ nativeAction (keyOf (now (keys .entry))) (keyCount (now (keys .entry))) id (now (accounts .entry)) (now («data» .entry)) (λ _. mintOf (now (mint .entry)))) ⌝ }
+{
+    if !ids::is_id(2, mint) {
+        return Native::Nothing;
+    }
+    if !all_below(ids::key_count(keys), accounts) {
+        return Native::Nothing;
+    }
+    form(id, accounts, data)
+}
+
+// The fields of a row, one after the other.
+fn put_fields(
+    out: &mut [u8],
+    at: usize,
+    invocation: u32,
+    kind: u8,
+    held: &[u8],
+    other: &[u8],
+    authority: &[u8],
+    lamports: u64,
+)
+    requires { ⌜ (at < length (now out)) × (length (now held) ≡ 32) × (length (now other) ≡ 32) × (length (now authority) ≡ 32) ⌝ }
+    ensures { λ _. ⌜ now (out .exit) ≡ sets (now (out .entry)) at (fieldsOf invocation kind (now (held .entry)) (now (other .entry)) (now (authority .entry)) lamports) ⌝ }
+{
+    wire::put_u32(out, at, invocation);
+    wire::put_byte(out, at + 4, kind);
+    wire::put(out, at + 5, held);
+    wire::put(out, at + 37, other);
+    wire::put(out, at + 69, authority);
+    wire::put_u64(out, at + 101, lamports);
+}
+
+// Writes the row of an action, if there is one.
+pub fn put_row(out: &mut [u8], at: usize, invocation: u32, keys: &[u8], native: Native)
+    ensures { λ _. ⌜ now (out .exit) ≡ sets (now (out .entry)) at (rowsOf invocation (valueOf (keyOf (now (keys .entry))) native)) ⌝ }
+{
+    if out.len() <= at {
+        return;
+    }
+    let blank = [0u8; 32];
+    let zero = [0u8; 32];
+    match native {
+        Native::Nothing => {}
+        Native::Fund(h, s, lamports) => {
+            put_fields(
+                out,
+                at,
+                invocation,
+                1,
+                ids::key(keys, &blank, h as usize),
+                ids::key(keys, &blank, s as usize),
+                &zero,
+                lamports,
+            );
+        }
+        Native::Sync(h) => {
+            put_fields(
+                out,
+                at,
+                invocation,
+                2,
+                ids::key(keys, &blank, h as usize),
+                &zero,
+                &zero,
+                0,
+            );
+        }
+        Native::Close(h, d, a) => {
+            put_fields(
+                out,
+                at,
+                invocation,
+                3,
+                ids::key(keys, &blank, h as usize),
+                ids::key(keys, &blank, d as usize),
+                ids::key(keys, &blank, a as usize),
+                0,
+            );
+        }
+    }
+}

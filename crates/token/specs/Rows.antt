@@ -1,0 +1,36 @@
+-- A row of the table of transfers, 150 bytes: invocation, program, source, destination, mint flag and mint, amount, fee flag and fee.
+-- Absent fields are zero.
+-- Assumes nothing.
+use Prim.Native.Nat.{ℕ}
+use mathlib.Core.Bool.{cond, _&&_, not}
+use mathlib.Core.List.{List, [], _∷_, _++_}
+use mathlib.Core.Option.{Option, none, some}
+use lib.Dec.{eqb}
+use lib.ListN.{length}
+use Rattle.wire.specs.Le.{leBytes}
+use Rattle.wire.specs.Zeros.{zeros}
+use Rattle.ids.specs.Keys.{Key}
+use Rattle.token.specs.Transfers.{Transfer, isZero}
+
+-- a mint that is handed over as 32 bytes; zero, or of another length, it is none
+unfoldable pub mintOf : List ℕ → Option Key
+mintOf m = cond (eqb (length m) 32 && not (isZero m)) (some m) none
+
+-- a flag and a key
+abbrev pub mintField : Option Key → List ℕ
+mintField none = zeros 33
+mintField (some k) = 1 ∷ k
+
+-- a flag and a number of eight bytes
+abbrev pub feeField : Option ℕ → List ℕ
+feeField none = zeros 9
+feeField (some f) = 1 ∷ leBytes 8 f
+
+unfoldable pub rowOf : ℕ → Key → Option Key → Transfer → List ℕ
+rowOf i program mint t =
+    leBytes 4 i ++ program ++ t .source ++ t .destination ++ mintField mint ++ leBytes 8 (t .amount) ++ feeField (t .fee)
+
+-- the bytes that an instruction adds to the table
+abbrev pub rowsOf : ℕ → Key → Option Key → Option Transfer → List ℕ
+rowsOf i program mint none = []
+rowsOf i program mint (some t) = rowOf i program mint t

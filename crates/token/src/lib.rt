@@ -1,0 +1,213 @@
+// Token instructions: which one some data is, and which transfer it gives (the module `row` writes that one's row).
+//
+// Every function is total. An instruction is read once, into an enum of numbers; keys stay indexes until a row is written.
+ghost use mathlib.Core.Path.{_≡_};
+ghost use mathlib.Core.Bool.{_&&_, _||_};
+ghost use lib.Dec.{leb, eqb};
+ghost use lib.ListN.{length, getD};
+ghost use Rattle.ids.specs.Keys.{keyOf};
+ghost use Rattle.token.specs.Programs.{isToken, isSpl, isToken2022};
+ghost use Rattle.token.specs.Tokens.{tokenOf};
+ghost use Rattle.token.specs.Transfers.{isZero, transfer as transferOf};
+ghost use Rattle.token.specs.Moved.{valueOf, feeless, movedBy, sourceBy};
+use ids::Id;
+
+pub mod row;
+
+// A token instruction, with the amount that it names, and the fee.
+pub enum Token {
+    Other,
+    Initialise,
+    Plain(u64),
+    Checked(u64),
+    WithFee(u64, u64),
+}
+
+// SPL Token or Token-2022.
+pub fn token_program(id: Id) -> bool
+    ensures { λ r. ⌜ r ≡ isToken id ⌝ }
+{
+    match id {
+        Id::SplToken => true,
+        Id::Token2022 => true,
+        _ => false,
+    }
+}
+
+fn token_2022(id: Id) -> bool
+    ensures { λ r. ⌜ r ≡ isToken2022 id ⌝ }
+{
+    match id {
+        Id::Token2022 => true,
+        _ => false,
+    }
+}
+
+// A test of several parts is a function, and its promise the definition's own test.
+fn at_least(len: usize, floor: usize, n: usize, accounts: usize) -> bool
+    ensures { λ r. ⌜ r ≡ (leb floor len && leb accounts n) ⌝ }
+{
+    floor <= len && accounts <= n
+}
+
+fn exactly(len: usize, want: usize, n: usize, accounts: usize) -> bool
+    ensures { λ r. ⌜ r ≡ (eqb len want && leb accounts n) ⌝ }
+{
+    len == want && accounts <= n
+}
+
+fn with_fee(id: Id, n: usize, data: &[u8]) -> bool
+    ensures { λ r. ⌜ r ≡ (isToken2022 id && eqb (getD (now («data» .entry)) 1 0) 1 && leb 19 (length (now («data» .entry))) && leb 4 n) ⌝ }
+{
+    if !token_2022(id) {
+        return false;
+    }
+    if wire::byte(data, 1) != 1 {
+        return false;
+    }
+    at_least(data.len(), 19, n, 4)
+}
+
+// The instruction that the data is, for a program and a number of accounts.
+pub fn parse(id: Id, accounts: usize, data: &[u8]) -> Token
+    ensures { λ r. ⌜ r ≡ tokenOf id accounts (now («data» .entry)) ⌝ }
+{
+    if !token_program(id) {
+        return Token::Other;
+    }
+    let tag = wire::byte(data, 0);
+    match tag {
+        1 => {
+            if exactly(data.len(), 1, accounts, 2) {
+                Token::Initialise
+            } else {
+                Token::Other
+            }
+        }
+        3 => {
+            if at_least(data.len(), 9, accounts, 3) {
+                Token::Plain(wire::u64_at(data, 1))
+            } else {
+                Token::Other
+            }
+        }
+        12 => {
+            if at_least(data.len(), 10, accounts, 4) {
+                Token::Checked(wire::u64_at(data, 1))
+            } else {
+                Token::Other
+            }
+        }
+        16 | 18 => {
+            if exactly(data.len(), 33, accounts, 2) {
+                Token::Initialise
+            } else {
+                Token::Other
+            }
+        }
+        26 => {
+            if with_fee(id, accounts, data) {
+                Token::WithFee(wire::u64_at(data, 2), wire::u64_at(data, 11))
+            } else {
+                Token::Other
+            }
+        }
+        _ => Token::Other,
+    }
+}
+
+// The transfer that an instruction gives: index bytes of source and destination, amount, and the fee where it is known.
+pub enum Moved {
+    Nothing,
+    FeeUnknown(u8, u8, u64),
+    FeeKnown(u8, u8, u64, u64),
+}
+
+fn spl_token(id: Id) -> bool
+    ensures { λ r. ⌜ r ≡ isSpl id ⌝ }
+{
+    match id {
+        Id::SplToken => true,
+        _ => false,
+    }
+}
+
+// Whether the key of an index is missing or zero.
+fn missing(keys: &[u8], index: u8) -> bool
+    ensures { λ r. ⌜ r ≡ isZero (keyOf (now (keys .entry)) index) ⌝ }
+{
+    let blank = [0u8; 32];
+    let zero = [0u8; 32];
+    wire::equal(ids::key(keys, &blank, index as usize), &zero)
+}
+
+fn no_ends(keys: &[u8], source: u8, destination: u8) -> bool
+    ensures { λ r. ⌜ r ≡ (isZero (keyOf (now (keys .entry)) source) || isZero (keyOf (now (keys .entry)) destination)) ⌝ }
+{
+    missing(keys, source) || missing(keys, destination)
+}
+
+fn no_checked_ends(keys: &[u8], source: u8, destination: u8, mint: u8) -> bool
+    ensures { λ r. ⌜ r ≡ (isZero (keyOf (now (keys .entry)) source) || isZero (keyOf (now (keys .entry)) destination) || isZero (keyOf (now (keys .entry)) mint)) ⌝ }
+{
+    no_ends(keys, source, destination) || missing(keys, mint)
+}
+
+fn without_fee(id: Id, source: u8, destination: u8, amount: u64) -> Moved
+    ensures { λ r. ⌜ r ≡ feeless id source destination amount ⌝ }
+{
+    if spl_token(id) {
+        Moved::FeeKnown(source, destination, amount, 0)
+    } else {
+        Moved::FeeUnknown(source, destination, amount)
+    }
+}
+
+// The transfer of an instruction that is read.
+fn moved_by(token: Token, id: Id, keys: &[u8], accounts: &[u8]) -> Moved
+    ensures { λ r. ⌜ r ≡ movedBy (keyOf (now (keys .entry))) id (now (accounts .entry)) token ⌝ }
+{
+    let first = wire::byte(accounts, 0);
+    let second = wire::byte(accounts, 1);
+    let third = wire::byte(accounts, 2);
+    match token {
+        Token::Plain(amount) => {
+            if no_ends(keys, first, second) {
+                return Moved::Nothing;
+            }
+            without_fee(id, first, second, amount)
+        }
+        Token::Checked(amount) => {
+            if no_checked_ends(keys, first, third, second) {
+                return Moved::Nothing;
+            }
+            without_fee(id, first, third, amount)
+        }
+        Token::WithFee(amount, fee) => {
+            if no_checked_ends(keys, first, third, second) {
+                return Moved::Nothing;
+            }
+            Moved::FeeKnown(first, third, amount, fee)
+        }
+        Token::Other => Moved::Nothing,
+        Token::Initialise => Moved::Nothing,
+    }
+}
+
+// The transfer that an instruction gives.
+pub fn transfer(id: Id, keys: &[u8], accounts: &[u8], data: &[u8]) -> Moved
+    ensures { λ r. ⌜ (r ≡ movedBy (keyOf (now (keys .entry))) id (now (accounts .entry)) (tokenOf id (length (now (accounts .entry))) (now («data» .entry)))) × (valueOf (keyOf (now (keys .entry))) r ≡ transferOf (keyOf (now (keys .entry))) id (now (accounts .entry)) (now («data» .entry))) ⌝ }
+{
+    moved_by(parse(id, accounts.len(), data), id, keys, accounts)
+}
+
+// The index of a transfer's source, for its mint to be looked up; 0 where there is no transfer.
+pub fn source(moved: Moved) -> u8
+    ensures { λ r. ⌜ r ≡ sourceBy moved ⌝ }
+{
+    match moved {
+        Moved::Nothing => 0,
+        Moved::FeeUnknown(s, _, _) => s,
+        Moved::FeeKnown(s, _, _, _) => s,
+    }
+}
