@@ -1,0 +1,42 @@
+-- A leg in numbers, its accounts as index bytes, is the original's leg: index bytes stand for the keys that `account` gives, since no place passes the accounts.
+-- Assumes nothing.
+use mathlib.Core.Path.{_≡_, refl, sym, ap, _∙_}
+use mathlib.Core.List.{List}
+use mathlib.Core.Option.{Option, none, some}
+use Prim.Native.Nat.{ℕ}
+use borrow.Author.Tests.{lt-ltb}
+use lib.ListN.{length}
+use Rattle.ids.specs.Keys.{Key, account}
+use Rattle.ids.specs.declared.Id.{Id}
+use Rattle.swaps.specs.declared.Swap.{Swap}
+use Rattle.swaps.specs.declared.Found.{Found}
+use Rattle.swaps.specs.declared.Found.the-variants.{Nothing, Leg}
+use Rattle.swaps.specs.Leg.{RouteLeg, legWith, valued}
+use Rattle.swaps.specs.Row.{known}
+use Rattle.swaps.specs.Swap.{byProgram, swap, indexed, legOf}
+use Rattle.swaps.proofs.Places.{Within, Among, among}
+
+viewed : (κ : ℕ → Key) (μ : Key → Option Key) (pools : List Key) (accounts : List ℕ) (f : Found) → Among (length accounts) f
+    → valued κ μ pools (indexed accounts f) ≡ valued (account κ accounts) μ pools f
+unfolding valued
+viewed κ μ pools accounts Nothing w = refl
+viewed κ μ pools accounts (Leg s) w =
+    simp (lt-ltb _ _ (w .pool), lt-ltb _ _ (w .trader), lt-ltb _ _ (w .input), lt-ltb _ _ (w .output), lt-ltb _ _ (w .first), lt-ltb _ _ (w .second))
+
+module _ (names : List ℕ) (κ : ℕ → Key) (id : Id) (accounts bytes : List ℕ) (μ : Key → Option Key) (pools : List Key) where
+  -- what `leg` answers is `swap`
+  pub leg-is-swap : valued κ μ pools (legOf names κ id accounts bytes) ≡ swap names κ id accounts bytes μ pools
+  unfolding swap
+  leg-is-swap =
+      viewed κ μ pools accounts (byProgram names (account κ accounts) id (length accounts) bytes) (among (length accounts) names (account κ accounts) id bytes)
+
+  -- no leg
+  pub no-leg : legOf names κ id accounts bytes ≡ Nothing → swap names κ id accounts bytes μ pools ≡ none
+  unfolding valued
+  no-leg e = sym leg-is-swap ∙ ap (valued κ μ pools) e
+
+  -- a leg, with the mints that are known of its input and output account handed in as bytes: `put_leg` writes the row of this very leg
+  pub a-leg : (s : Swap) (spent bought : List ℕ) → legOf names κ id accounts bytes ≡ Leg s → known spent ≡ μ (κ (s .input)) → known bought ≡ μ (κ (s .output))
+      → swap names κ id accounts bytes μ pools ≡ some (legWith κ (known spent) (known bought) pools s)
+  unfolding valued
+  a-leg s spent bought e f g = sym leg-is-swap ∙ ap (valued κ μ pools) e ∙ rw (f, g)

@@ -1,0 +1,16 @@
+use borrow.Author.Tests.{le-leb, lt-leb}
+use Rattle.swaps.proofs.pumpswap.takes.Statement.{statement}
+use Rattle.swaps.proofs.pumpswap.takes.Tie as tie
+use Rattle.swaps.proofs.pumpswap.takes.Reads as reads
+use Rattle.swaps.proofs.pumpswap.takes.Lts as lts
+
+-- src/pumpswap.rt:16:9
+returns : tie.Need-returns
+returns c = simp (le-leb _ _ (c .if1 .taken))
+
+-- src/pumpswap.rt:12:1
+returns-2 : tie.Need-returns-2
+returns-2 c = simp (lt-leb _ _ (c .if1 .left))
+
+pub takes-spec : {M : Type 1} → statement M
+takes-spec = tie.close (tie.spec returns returns-2)

@@ -1,0 +1,79 @@
+use Rattle.swaps.specs.Row.{keyBytes}
+use Rattle.wire.specs.Sets.{sets-append, sets-past}
+use Rattle.swaps.proofs.Rows.{key-length}
+use lib.ListN.{length-append}
+use mathlib.Core.Path.{sym}
+use borrow.Author.Needs.{needs}
+use Rattle.swaps.proofs.row.put_keys.Statement.{statement}
+use Rattle.swaps.proofs.row.put_keys.Tie as tie
+use Rattle.swaps.proofs.row.put_keys.Reads as reads
+use Rattle.swaps.proofs.row.put_keys.Lts as lts
+use Rattle.swaps.proofs.row.put_key.Reads as put-key-reads
+
+-- src/row.rt:59:9
+returns : tie.Need-returns
+returns c =
+    let h = c .if1 .taken in
+    rw sets-past
+
+-- src/row.rt:61:5
+put-key-requires : tie.Need-put-key-requires
+put-key-requires c κs = search needs
+
+-- src/row.rt:62:18
+add-put-key : tie.Need-add-put-key
+add-put-key c = search needs
+
+-- src/row.rt:62:5
+put-key-requires-2 : tie.Need-put-key-requires-2
+put-key-requires-2 c κs = search needs
+
+-- src/row.rt:63:18
+add-put-key-2 : tie.Need-add-put-key-2
+add-put-key-2 c = search needs
+
+-- src/row.rt:63:5
+put-key-requires-3 : tie.Need-put-key-requires-3
+put-key-requires-3 c κs = search needs
+
+-- src/row.rt:64:18
+add-put-key-3 : tie.Need-add-put-key-3
+add-put-key-3 c = search needs
+
+-- src/row.rt:64:5
+put-key-requires-4 : tie.Need-put-key-requires-4
+put-key-requires-4 c κs = search needs
+
+-- src/row.rt:65:18
+add-put-key-4 : tie.Need-add-put-key-4
+add-put-key-4 c = search needs
+
+-- src/row.rt:65:5
+put-key-requires-5 : tie.Need-put-key-requires-5
+put-key-requires-5 c κs = search needs
+
+-- src/row.rt:55:1
+same-length : tie.Need-same-length
+same-length c = search needs
+
+-- src/row.rt:55:1
+returns-2 : tie.Need-returns-2
+unfolding keyBytes
+returns-2 c = rw (c .before .before .put-key5 .ensures, c .before .before .before .before .before .before .put-key4 .ensures, c .before .before .before .before .before .before .before .before .before .before .put-key3 .ensures, c .before .before .before .before .before .before .before .before .before .before .before .before .before .before .put-key2 .ensures, c .before .before .before .before .before .before .before .before .before .before .before .before .before .before .before .before .before .before .put-key .ensures) (simp (sets-append, length-append, key-length))
+
+pub put-keys-spec : {M : Type 1} → statement M
+put-keys-spec =
+    tie.close
+    (tie.spec
+    returns
+    put-key-requires
+    add-put-key
+    put-key-requires-2
+    add-put-key-2
+    put-key-requires-3
+    add-put-key-3
+    put-key-requires-4
+    add-put-key-4
+    put-key-requires-5
+    same-length
+    returns-2)

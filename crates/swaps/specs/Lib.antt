@@ -1,0 +1,14 @@
+pub mod Discriminators
+pub mod Data
+pub mod Draft
+pub mod Clmm
+pub mod Orca
+pub mod Cpmm
+pub mod Dlmm
+pub mod LaunchLab
+pub mod PumpFun
+pub mod PumpSwap
+pub mod AmmV4
+pub mod Leg
+pub mod Swap
+pub mod Row

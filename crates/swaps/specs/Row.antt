@@ -1,0 +1,58 @@
+-- A row of table 3, 250 bytes.
+-- Assumes nothing.
+use Prim.Native.Nat.{ℕ, zero, suc, _*_, _/_}
+use mathlib.Core.Bool.{Bool, cond, not, _&&_}
+use mathlib.Core.List.{List, [], _∷_, _++_}
+use mathlib.Core.Option.{Option, none, some}
+use lib.Dec.{eqb}
+use lib.ListN.{length, take, drop}
+use Rattle.wire.specs.Le.{leBytes}
+use Rattle.wire.specs.Zeros.{zeros}
+use Rattle.wire.specs.Same.{same}
+use Rattle.ids.specs.Keys.{Key, zeroKey}
+use Rattle.swaps.specs.Leg.{RouteLeg}
+
+-- a mint's flag and bytes, all zero where it is absent
+unfoldable pub mintBytes : Option Key → List ℕ
+mintBytes none = 0 ∷ zeros 32
+mintBytes (some m) = 1 ∷ m
+
+-- a test as a byte
+abbrev pub bit : Bool → ℕ
+bit b = cond b 1 0
+
+-- exact-in, amount, threshold, mode, graduated
+unfoldable pub endBytes : Bool → ℕ → ℕ → ℕ → Bool → List ℕ
+endBytes exact amount threshold mode graduated = (bit exact ∷ []) ++ leBytes 8 amount ++ leBytes 8 threshold ++ (mode ∷ []) ++ (bit graduated ∷ [])
+
+-- program, pool, trader, input, output
+unfoldable pub keyBytes : Key → Key → Key → Key → Key → List ℕ
+keyBytes program pool trader input output = program ++ pool ++ trader ++ input ++ output
+
+-- invocation, protocol, the five keys, the mints of the input and of the output, and the rest
+unfoldable pub legRow : ℕ → Key → RouteLeg → List ℕ
+legRow invocation program l =
+    leBytes 4 invocation ++ (l .protocol ∷ []) ++ keyBytes program (l .pool) (l .trader) (l .input) (l .output)
+    ++ mintBytes (l .inputMint) ++ mintBytes (l .outputMint)
+    ++ endBytes (l .exact) (l .amount) (l .threshold) (l .mode) (l .graduated)
+
+-- 32 bytes that are not all zero
+unfoldable pub isMint : List ℕ → Bool
+isMint m = eqb (length m) 32 && not (same m zeroKey)
+
+-- a mint that is handed in as bytes
+abbrev pub known : List ℕ → Option Key
+known m = cond (isMint m) (some m) none
+
+-- which bytes stand in a mint's field: the mint handed in, else the pair's key, else the stand-in
+unfoldable pub side : List ℕ → Bool → Key → Key → Key
+side m paired key blank = cond (isMint m) m (cond paired key blank)
+
+-- the m keys from row i on of a run of 32-byte rows
+unfoldable pub keysFrom : List ℕ → ℕ → ℕ → List Key
+keysFrom s zero i = []
+keysFrom s (suc m) i = take 32 (drop (i * 32) s) ∷ keysFrom s m (suc i)
+
+-- the pools that a run of 32-byte rows is
+abbrev pub poolsOf : List ℕ → List Key
+poolsOf s = keysFrom s (length s / 32) 0

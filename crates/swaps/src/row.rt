@@ -1,0 +1,178 @@
+// A leg's row of table 3, 250 bytes.
+use crate::Swap;
+ghost use mathlib.Core.Path.{_≡_};
+ghost use mathlib.Core.Bool.{_&&_};
+ghost use lib.Dec.{eqb};
+ghost use lib.Seq.{sets};
+ghost use Rattle.ids.specs.Keys.{keyOf};
+ghost use Rattle.swaps.specs.Leg.{contains, explicit, orElse, legWith};
+ghost use Rattle.swaps.specs.Row.{bit as bitOf, mintBytes, keyBytes, endBytes, legRow, known as knownOf, isMint, side as sideOf, poolsOf};
+
+// Whether a run of 32-byte rows holds a key.
+fn holds(pools: &[u8], key: &[u8]) -> bool
+    ensures { λ r. ⌜ r ≡ contains (poolsOf (now (pools .entry))) (now (key .entry)) ⌝ }
+{
+    let rows = pools.len() / 32;
+    let mut i = 0;
+    while i < rows {
+        let at = i * 32;
+        if wire::equal(&pools[at..at + 32], key) {
+            return true;
+        }
+        i += 1;
+    }
+    false
+}
+
+// A CPMM pool that is among the graduated ones.
+fn graduated(protocol: u8, keys: &[u8], pool: u8, pools: &[u8]) -> bool
+    ensures { λ r. ⌜ r ≡ (eqb protocol 3 && contains (poolsOf (now (pools .entry))) (keyOf (now (keys .entry)) pool)) ⌝ }
+{
+    if protocol != 3 {
+        return false;
+    }
+    let blank = [0u8; 32];
+    holds(pools, ids::key(keys, &blank, pool as usize))
+}
+
+// A test as a byte.
+fn bit(test: bool) -> u8
+    ensures { λ r. ⌜ r ≡ bitOf test ⌝ }
+{
+    if test { 1 } else { 0 }
+}
+
+// The key of an index.
+fn put_key(out: &mut [u8], at: usize, keys: &[u8], index: usize)
+    ensures { λ _. ⌜ now (out .exit) ≡ sets (now (out .entry)) at (keyOf (now (keys .entry)) index) ⌝ }
+{
+    let blank = [0u8; 32];
+    wire::put(out, at, ids::key(keys, &blank, index));
+}
+
+// The five keys.
+fn put_keys(
+    out: &mut [u8],
+    at: usize,
+    keys: &[u8],
+    program: usize,
+    pool: u8,
+    trader: u8,
+    input: u8,
+    output: u8,
+)
+    ensures { λ _. ⌜ now (out .exit) ≡ sets (now (out .entry)) at (keyBytes (keyOf (now (keys .entry)) program) (keyOf (now (keys .entry)) pool) (keyOf (now (keys .entry)) trader) (keyOf (now (keys .entry)) input) (keyOf (now (keys .entry)) output)) ⌝ }
+{
+    if out.len() <= at {
+        return;
+    }
+    put_key(out, at, keys, program);
+    put_key(out, at + 32, keys, pool as usize);
+    put_key(out, at + 64, keys, trader as usize);
+    put_key(out, at + 96, keys, input as usize);
+    put_key(out, at + 128, keys, output as usize);
+}
+
+// Whether 32 bytes that are not all zero were handed in.
+fn is_mint(mint: &[u8]) -> bool
+    ensures { λ r. ⌜ r ≡ isMint (now (mint .entry)) ⌝ }
+{
+    if mint.len() != 32 {
+        return false;
+    }
+    let blank = [0u8; 32];
+    !wire::equal(mint, &blank)
+}
+
+// The mint of one side: the known one, else the explicit pair's, else the stand-in.
+fn side<'a>(known: &'a [u8], paired: bool, key: &'a [u8], blank: &'a [u8]) -> &'a [u8]
+    ensures { λ r. ⌜ now r ≡ sideOf (now (known .entry)) paired (now (key .entry)) (now (blank .entry)) ⌝ }
+{
+    if is_mint(known) {
+        return known;
+    }
+    if paired { key } else { blank }
+}
+
+// Its flag and bytes.
+fn put_side<'a>(out: &mut [u8], at: usize, known: &'a [u8], keys: &'a [u8], paired: bool, index: u8)
+    ensures { λ _. ⌜ now (out .exit) ≡ sets (now (out .entry)) at (mintBytes (orElse (knownOf (now (known .entry))) (explicit paired (keyOf (now (keys .entry)) index)))) ⌝ }
+{
+    if out.len() <= at {
+        return;
+    }
+    let blank = [0u8; 32];
+    let mint = side(
+        known,
+        paired,
+        ids::key(keys, &blank, index as usize),
+        &blank,
+    );
+    wire::put_byte(out, at, bit(is_mint(mint)));
+    wire::put(out, at + 1, mint);
+}
+
+// What follows the mints.
+fn put_end(
+    out: &mut [u8],
+    at: usize,
+    exact: bool,
+    amount: u64,
+    threshold: u64,
+    mode: u8,
+    graduated: bool,
+)
+    ensures { λ _. ⌜ now (out .exit) ≡ sets (now (out .entry)) at (endBytes exact amount threshold mode graduated) ⌝ }
+{
+    if out.len() <= at {
+        return;
+    }
+    wire::put_byte(out, at, bit(exact));
+    wire::put_u64(out, at + 1, amount);
+    wire::put_u64(out, at + 9, threshold);
+    wire::put_byte(out, at + 17, mode);
+    wire::put_byte(out, at + 18, bit(graduated));
+}
+
+// The row at `at`: the invocation's number, its program's index, its leg as `leg` answers it, the mints known of the input account and of the output
+// account (32 bytes each, all zero if none is known), and the graduated pools.
+pub fn put_leg<'a>(
+    out: &mut [u8],
+    at: usize,
+    invocation: u32,
+    program: usize,
+    keys: &'a [u8],
+    leg: Swap,
+    spent: &'a [u8],
+    bought: &'a [u8],
+    pools: &[u8],
+)
+    ensures { λ _. ⌜ now (out .exit) ≡ sets (now (out .entry)) at (legRow invocation (keyOf (now (keys .entry)) program) (legWith (keyOf (now (keys .entry))) (knownOf (now (spent .entry))) (knownOf (now (bought .entry))) (poolsOf (now (pools .entry))) leg)) ⌝ }
+{
+    if out.len() <= at {
+        return;
+    }
+    wire::put_u32(out, at, invocation);
+    wire::put_byte(out, at + 4, leg.protocol);
+    put_keys(
+        out,
+        at + 5,
+        keys,
+        program,
+        leg.pool,
+        leg.trader,
+        leg.input,
+        leg.output,
+    );
+    put_side(out, at + 165, spent, keys, leg.paired, leg.first);
+    put_side(out, at + 198, bought, keys, leg.paired, leg.second);
+    put_end(
+        out,
+        at + 231,
+        leg.exact,
+        leg.amount,
+        leg.threshold,
+        leg.mode,
+        graduated(leg.protocol, keys, leg.pool, pools),
+    );
+}
