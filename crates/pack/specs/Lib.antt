@@ -1,1 +1,9 @@
 pub mod Invocation
+pub mod Sections
+pub mod Group
+pub mod Items
+pub mod View
+pub mod Flatten
+pub mod Sorted
+pub mod Verdict
+pub mod Layout

@@ -1,1 +1,105 @@
 // The pack: its trailer, its five sections, the refusals that its bytes can meet, and the invocations that they flatten to.
+//
+// Total over all bytes. `judge` answers which of the refusals 2 to 6 a pack meets, `section` shows a part of the pack, `flatten` says where each invocation's
+// instruction stands and where it was run, and `program`, `accounts` and `data` read an instruction back from its offset.
+ghost use mathlib.Core.Path.{_≡_};
+ghost use Prim.Native.Nat.{_+_, _≤_};
+ghost use lib.ListN.{length};
+ghost use Rattle.pack.specs.Items.{itemEnd};
+ghost use Rattle.pack.specs.Verdict.{verdict, numberOf, placeOf};
+
+pub mod flat;
+pub mod item;
+pub mod trailer;
+pub mod whole;
+
+pub use flat::flatten;
+pub use item::accounts;
+pub use item::data;
+pub use item::program;
+pub use trailer::section;
+use whole::Count;
+
+// What is wrong with a pack: nothing; its size or mark; its section starts; a row or item of a section, the lowest such; too many keys; too many invocations.
+pub enum Verdict {
+    Good,
+    Mark,
+    Starts,
+    Section(u32),
+    Keys,
+    Invocations,
+}
+
+// The number of a refusal, 0 for none.
+pub fn number(v: Verdict) -> u32
+    ensures { λ r. ⌜ r ≡ numberOf v ⌝ }
+{
+    match v {
+        Verdict::Good => 0,
+        Verdict::Mark => 2,
+        Verdict::Starts => 3,
+        Verdict::Section(_) => 4,
+        Verdict::Keys => 5,
+        Verdict::Invocations => 6,
+    }
+}
+
+// Its place: the section that is broken, else 0.
+pub fn place(v: Verdict) -> u32
+    ensures { λ r. ⌜ r ≡ placeOf v ⌝ }
+{
+    match v {
+        Verdict::Good => 0,
+        Verdict::Mark => 0,
+        Verdict::Starts => 0,
+        Verdict::Section(k) => k,
+        Verdict::Keys => 0,
+        Verdict::Invocations => 0,
+    }
+}
+
+// Which refusal a pack meets, in the order of the checks.
+pub fn judge(pack: &[u8]) -> Verdict
+    ensures { λ r. ⌜ r ≡ verdict (now (pack .entry)) ⌝ }
+{
+    if !trailer::marked(pack) {
+        return Verdict::Mark;
+    }
+    if !trailer::ordered(pack) {
+        return Verdict::Starts;
+    }
+    let keys = section(pack, 0);
+    if !whole::keys(keys) {
+        return Verdict::Section(0);
+    }
+    if section(pack, 1).len() % 36 != 0 {
+        return Verdict::Section(1);
+    }
+    let Count::Of(outers) = whole::outers(section(pack, 2)) else {
+        return Verdict::Section(2);
+    };
+    let Count::Of(inners) = whole::groups(section(pack, 3), outers) else {
+        return Verdict::Section(3);
+    };
+    if section(pack, 4).len() % 32 != 0 {
+        return Verdict::Section(4);
+    }
+    if 256 < keys.len() / 33 {
+        return Verdict::Keys;
+    }
+    if 1024 < outers {
+        return Verdict::Invocations;
+    }
+    if 1024 - outers < inners {
+        return Verdict::Invocations;
+    }
+    Verdict::Good
+}
+
+// Where the instruction at an offset of a section ends.
+fn item_end(s: &[u8], at: usize) -> usize
+    requires { ⌜ at ≤ length (now s) + 5 ⌝ }
+    ensures { λ r. ⌜ r ≡ itemEnd (now (s .entry)) at ⌝ }
+{
+    at + 8 + wire::u16_at(s, at + 4) as usize + wire::u16_at(s, at + 6) as usize
+}

@@ -1,0 +1,32 @@
+-- One outer instruction more: it, its groups, and the rest.
+-- Assumes nothing.
+use mathlib.Core.Path.{_≡_, sym, _∙_}
+use mathlib.Core.List.{List, [], _∷_, _++_, map}
+use Prim.Native.Nat.{ℕ, _+_, _≤_, _<_}
+use native.Mathlib.Numerals.{add-one}
+use lib.ListN.{length, getD, drop, set, drop-of-length-le}
+use lib.Seq.{sets, drop-cons}
+use Rattle.pack.specs.Invocation.{Position}
+use Rattle.pack.specs.Group.{Group}
+use Rattle.pack.specs.Flatten.{inside, outermost, flattenFrom}
+use Rattle.pack.proofs.Places.{sets-cons}
+use Rattle.pack.proofs.Chains.{wrote-more}
+
+-- the outer instructions from outer i on, r reading each from its offset
+abbrev pub restFrom : (ℕ → ℕ) → List ℕ → List (Group ℕ) → ℕ → List (Position × ℕ)
+restFrom r outs gs i = flattenFrom i (map r (drop i outs)) gs
+
+module _ (r : ℕ → ℕ) (outs : List ℕ) (gs : List (Group ℕ)) (i : ℕ) where
+  pub rest-cons : i < length outs → restFrom r outs gs i ≡ (outermost i, r (getD outs i 0)) ∷ (inside i gs ++ restFrom r outs gs (i + 1))
+  unfolding flattenFrom
+  rest-cons h = rw (drop-cons outs i 0 h, add-one i)
+
+  pub rest-nil : length outs ≤ i → restFrom r outs gs i ≡ []
+  unfolding flattenFrom
+  rest-nil h = rw (drop-of-length-le outs {i = i} h)
+
+-- an outer instruction is written at place n, and its groups behind it
+pub wrote-outer : (f : Position × ℕ → ℕ) (l l₁ : List ℕ) (n m v : ℕ) (x : Position × ℕ) (ys zs ws : List (Position × ℕ)) → v ≡ f x
+    → l₁ ≡ sets (set l n v) (n + 1) (map f ys) → m ≡ n + 1 + length ys → ws ≡ x ∷ (ys ++ zs) → sets l₁ m (map f zs) ≡ sets l n (map f ws)
+wrote-outer f l l₁ n m v x ys zs ws e q c w =
+    wrote-more f (set l n v) l₁ (n + 1) m ys zs q c ∙ rw (e, w) (sym (sets-cons l n (f x) (map f (ys ++ zs))))
