@@ -6,7 +6,6 @@ use mathlib.Core.Bool.{Bool, true, false, _&&_}
 use mathlib.Core.List.{List, [], _∷_, _++_}
 use mathlib.Core.Option.{Option, none, some}
 use Prim.Native.Nat.{ℕ, zero, suc}
-use lib.ListN.{replicate}
 use Rattle.wire.specs.Le.{le, leBytes}
 use Rattle.wire.specs.Same.{same}
 use Rattle.wire.specs.Zeros.{zeros}

@@ -14,9 +14,8 @@ use Rattle.wire.specs.Below.{and-left, and-right}
 use Rattle.ids.specs.Keys.{Key}
 use Rattle.ids.specs.declared.Id.{Id}
 use Rattle.ids.specs.declared.Id.the-variants.{SplToken, Token2022, WrappedSol, ComputeBudget, AssociatedToken, Memo, PumpFun, LaunchLab, PumpSwap, Clmm, Cpmm, AmmV4, Orca, Dlmm, System, Other, Unresolved}
-use Rattle.swaps.specs.declared.Swap.{Swap}
 use Rattle.swaps.specs.declared.Found.{Found}
-use Rattle.swaps.specs.declared.Found.the-variants.{Nothing, Leg}
+use Rattle.swaps.specs.declared.Found.the-variants.{Leg}
 use Rattle.swaps.specs.Discriminators.{SWAP, SWAP-V2, SWAP2, SWAP-EXACT-OUT, SWAP-EXACT-OUT2, BUY-EXACT-IN, SELL-EXACT-IN, BUY-EXACT-OUT, SELL-EXACT-OUT, BUY-V2, SELL-V2, BUY-EXACT-QUOTE-IN, BUY-EXACT-QUOTE-IN-V2, SELL}
 use Rattle.swaps.specs.Data.{is, isFlag, flag, when}
 use Rattle.swaps.specs.Draft.{plain, stated, pairing, pairBy, inMode}
@@ -29,40 +28,9 @@ use Rattle.swaps.specs.PumpFun.{isV2, isV3, isBuy, isExact, isWrapped, p
 use Rattle.swaps.specs.PumpSwap.{trackVolume, pumpSwapTakes, pumpSwapLeg, pumpSwap}
 use Rattle.swaps.specs.AmmV4.{ammV4Short, ammV4Long, ammV4}
 use Rattle.swaps.specs.Swap.{byProgram}
-
--- the six places of a leg are below n
-pub record Within (n : ℕ) (s : Swap) : Type 0 where
-  pub pool : s .pool < n
-  pub trader : s .trader < n
-  pub input : s .input < n
-  pub output : s .output < n
-  pub first : s .first < n
-  pub second : s .second < n
-
--- where there is a leg
-abbrev pub Among : ℕ → Found → Type 0
-Among n Nothing = Unit {0}
-Among n (Leg s) = Within n s
+use Rattle.swaps.proofs.Among.{Within, Among, two, three, crossed, forms, straight}
 
 module _ (n : ℕ) where
-  -- under tests
-  two : (t u : Bool) (s : Swap) → (t ≡ true → Within n s) → Among n (when t (when u (Leg s)))
-  two false u s h = tt
-  two true false s h = tt
-  two true true s h = h refl
-
-  three : (t u v : Bool) (s : Swap) → (t ≡ true → Within n s) → Among n (when t (when u (when v (Leg s))))
-  three false u v s h = tt
-  three true u v s h = two u v s (λ e. h refl)
-
-  -- input and output, and the pair, each in either order
-  crossed : (t b exact : Bool) (protocol pool trader i o p q x y : ℕ) → pool < n → trader < n → i < n → o < n → p < n → q < n
-      → Within n (pairBy t p q (plain protocol pool trader (cond b i o) (cond b o i) exact x y))
-  crossed true true exact protocol pool trader i o p q x y h₁ h₂ h₃ h₄ h₅ h₆ = omega arith
-  crossed true false exact protocol pool trader i o p q x y h₁ h₂ h₃ h₄ h₅ h₆ = omega arith
-  crossed false true exact protocol pool trader i o p q x y h₁ h₂ h₃ h₄ h₅ h₆ = omega arith
-  crossed false false exact protocol pool trader i o p q x y h₁ h₂ h₃ h₄ h₅ h₆ = omega arith
-
   clmm-within : (v2 exact : Bool) (x y : ℕ) → leb (cond v2 13 10) n ≡ true → Within n (clmmLeg v2 exact x y)
   unfolding clmmLeg
   clmm-within true exact x y e = let h = leb-true 13 n e in omega arith
@@ -71,7 +39,7 @@ module _ (n : ℕ) where
   clmm-among : (d : List ℕ) → Among n (clmm n d)
   unfolding clmm
   clmm-among d =
-      three (clmmTakes n d) (isFlag d 40) (leb 24 (length d)) (clmmLeg (is d SWAP-V2) (flag d 40) (le 8 d 8) (le 8 d 16))
+      three n (clmmTakes n d) (isFlag d 40) (leb 24 (length d)) (clmmLeg (is d SWAP-V2) (flag d 40) (le 8 d 8) (le 8 d 16))
       (λ e. clmm-within (is d SWAP-V2) (flag d 40) (le 8 d 8) (le 8 d 16) (and-right (is d SWAP || is d SWAP-V2) _ e))
 
   orca-within : (a : ℕ → Key) (v2 direction exact : Bool) (x y : ℕ) → leb (cond v2 15 11) n ≡ true
@@ -79,28 +47,16 @@ module _ (n : ℕ) where
   unfolding orcaV1 orcaV2
   orca-within a true direction exact x y e =
       let h = leb-true 15 n e in
-      crossed (same (a (cond direction 7 9)) (a 7)) direction exact 6 4 3 7 9 5 6 x y (omega arith) (omega arith) (omega arith) (omega arith) (omega arith) (omega arith)
+      crossed n (same (a (cond direction 7 9)) (a 7)) direction exact 6 4 3 7 9 5 6 x y (omega arith) (omega arith) (omega arith) (omega arith) (omega arith) (omega arith)
   orca-within a false true exact x y e = let h = leb-true 11 n e in omega arith
   orca-within a false false exact x y e = let h = leb-true 11 n e in omega arith
 
   orca-among : (a : ℕ → Key) (d : List ℕ) → Among n (orca a n d)
   unfolding orca
   orca-among a d =
-      three (orcaTakes n d) (isFlag d 40) (leb 24 (length d))
+      three n (orcaTakes n d) (isFlag d 40) (leb 24 (length d))
       (cond (is d SWAP-V2) (orcaV2 a (flag d 41) (flag d 40) (le 8 d 8) (le 8 d 16)) (orcaV1 (flag d 41) (flag d 40) (le 8 d 8) (le 8 d 16)))
       (λ e. orca-within a (is d SWAP-V2) (flag d 41) (flag d 40) (le 8 d 8) (le 8 d 16) (and-right (isFlag d 41) _ (and-right (is d SWAP || is d SWAP-V2) _ e)))
-
-  -- one of two forms, exact-in or exact-out
-  forms : (t p q : Bool) (f : Bool → Found) → (t ≡ true → (exact : Bool) → Among n (f exact)) → Among n (when t (cond p (f true) (when q (f false))))
-  forms false p q f h = tt
-  forms true true q f h = h refl true
-  forms true false true f h = h refl false
-  forms true false false f h = tt
-
-  -- a leg that names no direction
-  straight : (u exact : Bool) (protocol pool trader i o x y : ℕ) → pool < n → trader < n → i < n → o < n → Among n (when u (Leg (stated protocol pool trader i o exact x y)))
-  straight true exact protocol pool trader i o x y h₁ h₂ h₃ h₄ = omega arith
-  straight false exact protocol pool trader i o x y h₁ h₂ h₃ h₄ = tt
 
   cpmm-leg : (d : List ℕ) (exact : Bool) → 13 ≤ n → Among n (cpmmLeg d exact)
   cpmm-leg d exact h = go (leb 24 (length d))
@@ -111,7 +67,7 @@ module _ (n : ℕ) where
 
   cpmm-among : (names d : List ℕ) → Among n (cpmm names n d)
   unfolding cpmm
-  cpmm-among names d = forms (leb 13 n) (is d (le 8 names 0)) (is d (le 8 names 8)) (cpmmLeg d) (λ e exact. cpmm-leg d exact (leb-true 13 n e))
+  cpmm-among names d = forms n (leb 13 n) (is d (le 8 names 0)) (is d (le 8 names 8)) (cpmmLeg d) (λ e exact. cpmm-leg d exact (leb-true 13 n e))
 
   -- either layout has 15 accounts
   floored : (p q r s : Bool) → cond p (leb 15 n && r) (cond q (leb 16 n && s) false) ≡ true → 15 ≤ n
@@ -122,9 +78,9 @@ module _ (n : ℕ) where
   dlmm-among : (d : List ℕ) → Among n (dlmm n d)
   unfolding dlmm layout
   dlmm-among d =
-      forms (layout n d) (is d SWAP || is d SWAP2) (is d SWAP-EXACT-OUT || is d SWAP-EXACT-OUT2) (dlmmLeg d) (λ e exact.
+      forms n (layout n d) (is d SWAP || is d SWAP2) (is d SWAP-EXACT-OUT || is d SWAP-EXACT-OUT2) (dlmmLeg d) (λ e exact.
       let h = floored (is d SWAP || is d SWAP-EXACT-OUT) (is d SWAP2 || is d SWAP-EXACT-OUT2) (leb 24 (length d)) (slicesFit n d) e in
-      straight (leb 24 (length d)) exact 7 0 10 4 5 (le 8 d 8) (le 8 d 16) (omega arith) (omega arith) (omega arith) (omega arith))
+      straight n (leb 24 (length d)) exact 7 0 10 4 5 (le 8 d 8) (le 8 d 16) (omega arith) (omega arith) (omega arith) (omega arith))
 
   launchlab-forms : (t p q r s : Bool) (f : Bool → Bool → Found) → (t ≡ true → (buy exact : Bool) → Among n (f buy exact))
       → Among n (when t (cond p (f true true) (cond q (f false true) (cond r (f true false) (when s (f false false))))))
@@ -141,7 +97,7 @@ module _ (n : ℕ) where
     where
       s : Within n (pairBy (same (a (cond buy 6 5)) (a 6)) 10 9 (plain 2 4 0 (cond buy 6 5) (cond buy 5 6) exact (le 8 d 8) (le 8 d 16)))
       s =
-          crossed (same (a (cond buy 6 5)) (a 6)) buy exact 2 4 0 6 5 10 9 (le 8 d 8) (le 8 d 16) (omega arith) (omega arith) (omega arith) (omega arith) (omega arith)
+          crossed n (same (a (cond buy 6 5)) (a 6)) buy exact 2 4 0 6 5 10 9 (le 8 d 8) (le 8 d 16) (omega arith) (omega arith) (omega arith) (omega arith) (omega arith)
           (omega arith)
 
       go : (u : Bool)
@@ -159,7 +115,7 @@ module _ (n : ℕ) where
       → Within n (pumpFunLeg wrapped pool user base quote buy exact x y)
   unfolding pumpFunLeg
   pumpfun-leg wrapped buy exact pool user base quote x y h₁ h₂ h₃ h₄ h₅ =
-      crossed buy buy exact 8 pool user (cond wrapped user quote) base 2 1 x y h₁ h₂ (go wrapped) h₃ (omega arith) (omega arith)
+      crossed n buy buy exact 8 pool user (cond wrapped user quote) base 2 1 x y h₁ h₂ (go wrapped) h₃ (omega arith) (omega arith)
     where
       go : (w : Bool) → cond w user quote < n
       go true = h₂
@@ -180,7 +136,7 @@ module _ (n : ℕ) where
   pumpfun-by : (v2 v3 buy exact wrapped : Bool) (d : List ℕ) → Among n (pumpFunBy v2 v3 buy exact wrapped n d)
   unfolding pumpFunBy
   pumpfun-by v2 v3 buy exact wrapped d =
-      two (pumpFunTakes v2 v3 buy n) (leb 24 (length d))
+      two n (pumpFunTakes v2 v3 buy n) (leb 24 (length d))
       (cond v2 (pumpFunLeg wrapped 10 13 14 15 buy exact (le 8 d 8) (le 8 d 16)) (pumpFunLeg wrapped 5 8 9 10 buy exact (le 8 d 8) (le 8 d 16)))
       (λ e. pumpfun-within v2 buy exact wrapped (le 8 d 8) (le 8 d 16) (and-right (v2 || v3) _ e))
 
@@ -199,8 +155,8 @@ module _ (n : ℕ) where
   pumpswap-leg : (a : ℕ → Key) (d : List ℕ) (buy exact : Bool) → 17 ≤ n → Among n (pumpSwapLeg a d buy exact)
   unfolding pumpSwapLeg
   pumpswap-leg a d buy exact h =
-      two (trackVolume d buy) (leb 24 (length d)) (pairBy (same (a (cond buy 6 5)) (a 6)) 4 3 (plain 1 0 1 (cond buy 6 5) (cond buy 5 6) exact (le 8 d 8) (le 8 d 16)))
-      (λ e. crossed (same (a (cond buy 6 5)) (a 6)) buy exact 1 0 1 6 5 4 3 (le 8 d 8) (le 8 d 16) (omega arith) (omega arith) (omega arith) (omega arith) (omega arith)
+      two n (trackVolume d buy) (leb 24 (length d)) (pairBy (same (a (cond buy 6 5)) (a 6)) 4 3 (plain 1 0 1 (cond buy 6 5) (cond buy 5 6) exact (le 8 d 8) (le 8 d 16)))
+      (λ e. crossed n (same (a (cond buy 6 5)) (a 6)) buy exact 1 0 1 6 5 4 3 (le 8 d 8) (le 8 d 16) (omega arith) (omega arith) (omega arith) (omega arith) (omega arith)
       (omega arith))
 
   -- 21 up, or 17
@@ -226,11 +182,11 @@ module _ (n : ℕ) where
 
   amm-long : (tag : ℕ) (d : List ℕ) (t : Bool) → eqb n 17 ≡ t → 17 ≤ n
       → Among n (when (leb 17 (length d)) (Leg (stated 4 1 (17 - cond t 1 0) (15 - cond t 1 0) (16 - cond t 1 0) (eqb tag 9) (le 8 d 1) (le 8 d 9))))
-  amm-long tag d true e h = straight (leb 17 (length d)) (eqb tag 9) 4 1 16 14 15 (le 8 d 1) (le 8 d 9) (omega arith) (omega arith) (omega arith) (omega arith)
+  amm-long tag d true e h = straight n (leb 17 (length d)) (eqb tag 9) 4 1 16 14 15 (le 8 d 1) (le 8 d 9) (omega arith) (omega arith) (omega arith) (omega arith)
   amm-long tag d false e h =
       let f = eqb-false n 17 e in
       let k : 17 < n = omega arith in
-      straight (leb 17 (length d)) (eqb tag 9) 4 1 17 15 16 (le 8 d 1) (le 8 d 9) (omega arith) (omega arith) (omega arith) (omega arith)
+      straight n (leb 17 (length d)) (eqb tag 9) 4 1 17 15 16 (le 8 d 1) (le 8 d 9) (omega arith) (omega arith) (omega arith) (omega arith)
 
   amm-among : (d : List ℕ) → Among n (ammV4 n d)
   unfolding ammV4
@@ -239,7 +195,7 @@ module _ (n : ℕ) where
       amm-forms (eqb tag 16 || eqb tag 17) (leb 8 n) (eqb tag 9 || eqb tag 11) (leb 17 n) (ammV4Short tag d) (ammV4Long tag n d)
       (λ e.
       let h = leb-true 8 n (and-right (eqb tag 16 || eqb tag 17) (leb 8 n) e) in
-      straight (leb 17 (length d)) (eqb tag 16) 4 1 7 5 6 (le 8 d 1) (le 8 d 9) (omega arith) (omega arith) (omega arith) (omega arith))
+      straight n (leb 17 (length d)) (eqb tag 16) 4 1 7 5 6 (le 8 d 1) (le 8 d 9) (omega arith) (omega arith) (omega arith) (omega arith))
       (λ e. amm-long tag d (eqb n 17) refl (leb-true 17 n (and-right (eqb tag 9 || eqb tag 11) (leb 17 n) e)))
 
   -- whichever the program

@@ -11,10 +11,11 @@ use Rattle.ids.specs.declared.Id.{Id}
 use Rattle.swaps.specs.declared.Swap.{Swap}
 use Rattle.swaps.specs.declared.Found.{Found}
 use Rattle.swaps.specs.declared.Found.the-variants.{Nothing, Leg}
-use Rattle.swaps.specs.Leg.{RouteLeg, legWith, valued}
+use Rattle.swaps.specs.Leg.{legWith, valued}
 use Rattle.swaps.specs.Row.{known}
 use Rattle.swaps.specs.Swap.{byProgram, swap, indexed, legOf}
-use Rattle.swaps.proofs.Places.{Within, Among, among}
+use Rattle.swaps.proofs.Among.{Among}
+use Rattle.swaps.proofs.Places.{among}
 
 viewed : (κ : ℕ → Key) (μ : Key → Option Key) (pools : List Key) (accounts : List ℕ) (f : Found) → Among (length accounts) f
     → valued κ μ pools (indexed accounts f) ≡ valued (account κ accounts) μ pools f

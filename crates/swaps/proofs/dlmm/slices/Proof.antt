@@ -1,11 +1,11 @@
 use Rattle.swaps.proofs.Slices.{tag-small, ended, stops, passes}
 use borrow.Author.Needs.{needs}
 use Rattle.swaps.specs.Dlmm.{slices, isSlice, claims, tagSize}
-use Prim.Native.Nat.{ℕ, _+_, _-_, _≤_, _<_}
-use lib.ListN.{length, getD}
-use lib.Dec.{leb, ltb}
-use mathlib.Core.Bool.{true, false, _&&_, and-false}
-use mathlib.Core.Path.{_≡_, refl, sym, ap, _∙_}
+use Prim.Native.Nat.{_+_, _-_, _≤_, _<_}
+use lib.ListN.{getD}
+use lib.Dec.{leb}
+use mathlib.Core.Bool.{true, _&&_, and-false}
+use mathlib.Core.Path.{_≡_, sym, ap, _∙_}
 use native.Mathlib.Nat.{sub-zero}
 use native.Mathlib.Omega.{arith}
 use borrow.Author.Tests.{lt-ltb, le-ltb, lt-leb, le-leb}

@@ -1,4 +1,3 @@
-use borrow.Author.Needs.{needs}
 use Rattle.swaps.proofs.pumpfun.takes.Statement.{statement}
 use Rattle.swaps.proofs.pumpfun.takes.Tie as tie
 use Rattle.swaps.proofs.pumpfun.takes.Reads as reads

@@ -1,11 +1,9 @@
 use Rattle.swaps.proofs.Rows.{pool-here, pool-on, pool-none}
 use Rattle.swaps.specs.Leg.{contains}
 use Rattle.swaps.specs.Row.{keysFrom}
-use Rattle.wire.specs.Same.{same}
-use Prim.Native.Nat.{ℕ, _+_, _*_, _-_, _/_, _≤_, _<_}
-use lib.ListN.{length, take, drop}
-use mathlib.Core.Bool.{true, false}
-use mathlib.Core.Path.{_≡_, refl, sym, _∙_}
+use Prim.Native.Nat.{_-_, _/_, _≤_}
+use lib.ListN.{length}
+use mathlib.Core.Path.{_≡_, sym, _∙_}
 use native.Mathlib.Nat.{sub-zero, add-sub-cancel-left}
 use native.Mathlib.Omega.{arith}
 use Rattle.swaps.proofs.row.holds.Statement.{statement}

@@ -2,7 +2,6 @@ use Rattle.swaps.specs.Row.{endBytes}
 use Rattle.wire.specs.Sets.{sets-append, sets-past}
 use Rattle.wire.proofs.Laws.{leBytes-length}
 use lib.ListN.{length-append}
-use mathlib.Core.Path.{sym}
 use borrow.Author.Needs.{needs}
 use Rattle.swaps.proofs.row.put_end.Statement.{statement}
 use Rattle.swaps.proofs.row.put_end.Tie as tie

@@ -2,7 +2,6 @@ use Rattle.swaps.specs.Row.{keyBytes}
 use Rattle.wire.specs.Sets.{sets-append, sets-past}
 use Rattle.swaps.proofs.Rows.{key-length}
 use lib.ListN.{length-append}
-use mathlib.Core.Path.{sym}
 use borrow.Author.Needs.{needs}
 use Rattle.swaps.proofs.row.put_keys.Statement.{statement}
 use Rattle.swaps.proofs.row.put_keys.Tie as tie

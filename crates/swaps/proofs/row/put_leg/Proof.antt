@@ -1,7 +1,6 @@
 use Rattle.swaps.specs.Row.{poolsOf}
 use Rattle.swaps.proofs.Rows.{row-in}
 use Rattle.wire.specs.Sets.{sets-past}
-use native.Mathlib.Omega.{arith}
 use borrow.Author.Needs.{needs}
 use Rattle.swaps.proofs.row.put_leg.Statement.{statement}
 use Rattle.swaps.proofs.row.put_leg.Tie as tie

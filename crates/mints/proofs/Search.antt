@@ -1,0 +1,85 @@
+-- The row search: what each way through it says of the first row with an account.
+-- Assumes nothing.
+use mathlib.Core.Path.{_≡_, refl, sym, _∙_}
+use mathlib.Core.Bool.{Bool, true, false, cond}
+use mathlib.Core.List.{List}
+use Prim.Native.Nat.{ℕ, zero, suc, _+_, _-_, _*_, _/_, _≤_, _<_}
+use native.Mathlib.Numerals.{add-one}
+use native.Mathlib.Omega.{arith}
+use lib.ListN.{length, getD, take, drop, length-take, length-drop}
+use lib.Seq.{ext-getD, getD-take, getD-drop}
+use lib.Dec.{ltb}
+use borrow.Author.Tests.{ltb-true}
+use Rattle.wire.specs.Same.{same, same-refl, same-not-at}
+use Rattle.ids.specs.Keys.{zeroKey, keyCount, keyOf, account}
+use Rattle.mints.specs.Cells.{accountAt, Fits, firstFrom}
+use Rattle.mints.specs.Gather.{rowOf}
+
+module _ (t k : List ℕ) where
+  account-byte : (i j : ℕ) → j < 32 → getD (accountAt t i) j 0 ≡ getD t (i * 65 + j) 0
+  account-byte i j h = rw (getD-take, getD-drop)
+
+  -- every byte is the key's
+  pub account-is : (i : ℕ) → i * 65 + 32 ≤ length t → length k ≡ 32 → ((j : ℕ) → j < 32 → getD t (i * 65 + j) 0 ≡ getD k j 0) → same (accountAt t i) k ≡ true
+  account-is i h e f =
+      let l : length (accountAt t i) ≡ 32 = simp (length-take, length-drop) (omega arith) in
+      rw (ext-getD 0 (accountAt t i) k (l ∙ sym e) (λ j lt. account-byte i j (omega arith) ∙ f j (omega arith))) (same-refl k)
+
+  -- a byte is not
+  pub account-not : (i j : ℕ) → j < 32 → (getD t (i * 65 + j) 0 ≡ getD k j 0 → ⊥) → same (accountAt t i) k ≡ false
+  account-not i j h f = same-not-at (accountAt t i) k j (λ e. f (sym (account-byte i j h) ∙ e))
+
+  pub skip : (n i : ℕ) → i < n → same (accountAt t i) k ≡ false → firstFrom t k (n - (i + 1)) (i + 1) ≡ firstFrom t k (n - i) i
+  unfolding firstFrom
+  skip n i h e =
+      let s : n - i ≡ suc (n - (i + 1)) = omega arith in
+      rw (s, e, add-one i)
+
+  pub found : (n i : ℕ) → i < n → same (accountAt t i) k ≡ true → firstFrom t k (n - i) i ≡ i
+  unfolding firstFrom
+  found n i h e =
+      let s : n - i ≡ suc (n - (i + 1)) = omega arith in
+      rw (s, e)
+
+  pub ended : (n i : ℕ) → n ≤ i → firstFrom t k (n - i) i ≡ i
+  unfolding firstFrom
+  ended n i h =
+      let s : n - i ≡ 0 = omega arith in
+      rw s
+
+  pub within : (f i : ℕ) → firstFrom t k f i ≤ i + f
+  unfolding firstFrom
+  within zero i = omega arith
+  within (suc f) i = go (same (accountAt t i) k) (within f (suc i))
+    where
+      go : (b : Bool) → firstFrom t k f (suc i) ≤ suc i + f → cond b i (firstFrom t k f (suc i)) ≤ i + suc f
+      go true h = omega arith
+      go false h = omega arith
+
+-- a key has 32 bytes, missing or not
+pub key-length : (ks : List ℕ) (i : ℕ) → length (keyOf ks i) ≡ 32
+unfolding zeroKey
+key-length ks i = go (ltb i (keyCount ks)) refl
+  where
+    go : (b : Bool) → ltb i (keyCount ks) ≡ b → length (cond b (take 32 (drop (i * 33 + 1) ks)) zeroKey) ≡ 32
+    go true e =
+        let h : i < length ks / 33 = ltb-true _ _ e in
+        simp (length-take, length-drop) (omega arith)
+    go false e = refl
+
+pub account-length : (ks accounts : List ℕ) (i : ℕ) → length (account (keyOf ks) accounts i) ≡ 32
+unfolding zeroKey
+account-length ks accounts i = go (ltb i (length accounts))
+  where
+    go : (b : Bool) → length (cond b (keyOf ks (getD accounts i 0)) zeroKey) ≡ 32
+    go true = key-length ks (getD accounts i 0)
+    go false = refl
+
+-- row 0 is whole if any row is
+pub row-fits : (t row accounts : List ℕ) (i : ℕ) → Fits t row → rowOf row accounts i * 65 + 65 ≤ length t
+unfolding rowOf
+row-fits t row accounts i f = go (ltb i (length accounts))
+  where
+    go : (b : Bool) → cond b (getD row (getD accounts i 0) 0) 0 * 65 + 65 ≤ length t
+    go true = f (getD accounts i 0)
+    go false = omega (arith, f 0)

@@ -1,0 +1,68 @@
+-- How long rows and mints are as they are written, and one row more.
+-- Assumes nothing.
+use mathlib.Core.Path.{_≡_, refl}
+use mathlib.Core.Bool.{Bool, true, false, cond}
+use mathlib.Core.List.{List, [], _∷_, _++_, append-assoc, append-nil}
+use Prim.Native.Nat.{ℕ, zero, suc, _+_, _-_, _*_, _≤_, _<_}
+use native.Mathlib.Numerals.{add-one}
+use native.Mathlib.Omega.{arith}
+use lib.Dec.{ltb}
+use lib.ListN.{length, getD, take, drop, length-append, length-take, length-drop, set, List·getD-eq-default}
+use lib.Seq.{sets, take-suc, getD-take}
+use native.Mathlib.Decide.{decLt}
+use mathlib.Core.Logic.{by-cases}
+use Rattle.wire.specs.Sets.{sets-append}
+use Rattle.ids.specs.Keys.{zeroKey}
+use Rattle.mints.specs.Cells.{mintAt, stateAt, Fits}
+use Rattle.mints.specs.Order.{rowBytes, rowsBytes, mintOf, mintsTo}
+
+pub mint-length : (t : List ℕ) (r : ℕ) → r * 65 + 65 ≤ length t → length (mintOf t zeroKey r) ≡ 32
+unfolding mintOf zeroKey
+mint-length t r h = go (ltb 1 (stateAt t r))
+  where
+    go : (b : Bool) → length (cond b (mintAt t r) zeroKey) ≡ 32
+    go true = simp (length-take, length-drop) (omega arith)
+    go false = refl
+
+-- 32 bytes for each key index
+pub mints-length : (t row : List ℕ) (n : ℕ) → Fits t row → length (mintsTo t row n) ≡ n * 32
+unfolding mintsTo
+mints-length t row zero f = refl
+mints-length t row (suc n) f = rw length-append (omega (arith, mints-length t row n f, mint-length t (getD row n 0) (f n)))
+
+row-length : (t : List ℕ) (r : ℕ) → r * 65 + 65 ≤ length t → length (rowBytes t r) ≡ 65
+unfolding rowBytes
+row-length t r h = simp (length-append, length-take, length-drop) (omega arith)
+
+rows-append : (t l k : List ℕ) → rowsBytes t (l ++ k) ≡ rowsBytes t l ++ rowsBytes t k
+unfolding rowsBytes
+rows-append t [] k = refl
+rows-append t (r ∷ l) k = rw (rows-append t l k, append-assoc)
+
+-- one row more
+pub rows-next : (t l : List ℕ) (j : ℕ) → j < length l → rowsBytes t (take (j + 1) l) ≡ rowsBytes t (take j l) ++ rowBytes t (getD l j 0)
+unfolding rowsBytes
+rows-next t l j h = rw (add-one, take-suc l j 0 h, rows-append, append-nil)
+
+-- 65 bytes for each row
+pub rows-length : (t l : List ℕ) → Fits t l → length (rowsBytes t l) ≡ length l * 65
+unfolding rowsBytes
+rows-length t [] f = refl
+rows-length t (r ∷ l) f = rw length-append (omega (arith, rows-length t l (λ i. f (suc i)), row-length t r (f 0)))
+
+-- fewer rows fit too
+pub fits-take : (t o : List ℕ) (j k : ℕ) → j ≤ k → k ≤ length o → Fits t (take k o) → Fits t (take j o)
+fits-take t o j k h q f i =
+    by-cases
+    (decLt i j)
+    (λ (l : i < j). rw (getD-take j o i 0 l, ← getD-take k o i 0 (omega arith)) (f i))
+    (λ (l : ¬ (i < j)).
+    rw (List·getD-eq-default (take j o) 0 {n = i} (simp length-take (omega arith)))
+    (rw (List·getD-eq-default (take k o) 0 {n = k} (simp length-take (omega arith))) at (f k)))
+
+-- a row is its 64 bytes and its mark
+pub row-put : (out t : List ℕ) (i r : ℕ) → r * 65 + 65 ≤ length t → set (sets out i (take 64 (drop (r * 65) t))) (i + 64) (stateAt t r - 2) ≡ sets out i (rowBytes t r)
+unfolding rowBytes
+row-put out t i r h =
+    let n : length (take 64 (drop (r * 65) t)) ≡ 64 = simp (length-take, length-drop) (omega arith) in
+    rw (sets-append, n)

@@ -1,0 +1,49 @@
+-- The working table: 65-byte rows, an account, a mint and a state.
+-- Assumes nothing.
+use Prim.Native.Nat.{ℕ, zero, suc, _+_, _*_, _≤_}
+use mathlib.Core.Bool.{cond}
+use mathlib.Core.Option.{Option, none, some}
+use mathlib.Core.List.{List}
+use lib.ListN.{length, getD, take, drop, set}
+use lib.Seq.{sets}
+use Rattle.wire.specs.Same.{same}
+use Rattle.ids.specs.Keys.{Key, zeroKey}
+
+-- the account of row r
+abbrev pub accountAt : List ℕ → ℕ → Key
+accountAt t r = take 32 (drop (r * 65) t)
+
+-- the mint of row r
+abbrev pub mintAt : List ℕ → ℕ → Key
+mintAt t r = take 32 (drop (r * 65 + 32) t)
+
+-- the state of row r: 0 no mint, 1 ambiguous, 2 recorded, 3 filled in, 4 filled in and joined to another mint
+abbrev pub stateAt : List ℕ → ℕ → ℕ
+stateAt t r = getD t (r * 65 + 64) 0
+
+-- every row number of a list is that of a whole row
+abbrev pub Fits : List ℕ → List ℕ → Type 0
+Fits t l = (i : ℕ) → getD l i 0 * 65 + 65 ≤ length t
+
+-- the table with a mint and a state in row r
+unfoldable pub withMint : List ℕ → ℕ → Key → ℕ → List ℕ
+withMint t r m s = set (sets t (r * 65 + 32) m) (r * 65 + 64) s
+
+-- the table with a state in row r
+unfoldable pub withState : List ℕ → ℕ → ℕ → List ℕ
+withState t r s = set t (r * 65 + 64) s
+
+-- what a state and a mint say of an account; the zero key tells an ambiguous one
+unfoldable pub held : ℕ → Key → Option Key
+held zero m = none
+held (suc zero) m = some zeroKey
+held (suc (suc s)) m = some m
+
+-- the first of the f rows from i on whose account is k, and i + f where there is none
+unfoldable pub firstFrom : List ℕ → Key → ℕ → ℕ → ℕ
+firstFrom t k zero i = i
+firstFrom t k (suc f) i = let rest = firstFrom t k f (suc i) in cond (same (accountAt t i) k) i rest
+
+-- the first of n rows whose account is k, and n where there is none
+abbrev pub firstRow : List ℕ → Key → ℕ → ℕ
+firstRow t k n = firstFrom t k n 0

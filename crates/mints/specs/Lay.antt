@@ -1,0 +1,38 @@
+-- The rows of the keys, and the row of each key index.
+-- Assumes nothing.
+use Prim.Native.Nat.{ℕ, zero, suc, _*_}
+use mathlib.Core.Bool.{cond}
+use mathlib.Core.List.{List}
+use lib.Dec.{eqb}
+use lib.ListN.{set}
+use lib.Seq.{sets}
+use Rattle.ids.specs.Keys.{Key}
+use Rattle.mints.specs.Cells.{firstRow, withState}
+
+-- the table, the row of each key index, and how many rows there are
+pub record Laid : Type 0 where
+  pub table : List ℕ
+  pub row : List ℕ
+  pub rows : ℕ
+
+-- key i at row r: a new row, if r is the number of rows
+unfoldable pub layAt : Laid → ℕ → Key → ℕ → Laid
+layAt s i k r =
+    record {
+      table = cond (eqb r (s .rows)) (sets (s .table) (r * 65) k) (s .table);
+      row = set (s .row) i r;
+      rows = cond (eqb r (s .rows)) (suc (s .rows)) (s .rows);
+    }
+
+-- one key more
+unfoldable pub layKey : Laid → ℕ → Key → Laid
+layKey s i k = layAt s i k (firstRow (s .table) k (s .rows))
+
+-- the first i keys, into a table whose row 0 is laid
+unfoldable pub layTo : (ℕ → Key) → List ℕ → List ℕ → ℕ → Laid
+layTo κ t row zero = record { table = t; row = row; rows = 1 }
+layTo κ t row (suc i) = layKey (layTo κ t row i) i (κ i)
+
+-- row 0, the zero key's and ambiguous, and n keys
+abbrev pub laid : (ℕ → Key) → List ℕ → List ℕ → ℕ → Laid
+laid κ t row n = layTo κ (withState t 0 1) row n

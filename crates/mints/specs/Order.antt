@@ -1,0 +1,41 @@
+-- The rows with a mint, ascending by account, and what is written of them.
+-- Assumes nothing.
+use Prim.Native.Nat.{ℕ, zero, suc, _-_, _*_}
+use mathlib.Core.Bool.{cond}
+use mathlib.Core.List.{List, [], _∷_, _++_}
+use lib.Dec.{ltb}
+use lib.ListN.{getD, take, drop}
+use Rattle.ids.specs.Keys.{Key, zeroKey}
+use Rattle.evidence.specs.Keys.{ltKey}
+use Rattle.mints.specs.Cells.{accountAt, mintAt, stateAt}
+
+-- the first place of the list l whose row has a greater account than row r
+unfoldable pub spotIn : List ℕ → ℕ → List ℕ → ℕ
+spotIn t r [] = 0
+spotIn t r (q ∷ l) = let rest = spotIn t r l in cond (ltKey (accountAt t r) (accountAt t q)) 0 (suc rest)
+
+-- the list with r put in at place j
+abbrev pub putIn : List ℕ → ℕ → ℕ → List ℕ
+putIn l j r = take j l ++ (r ∷ drop j l)
+
+-- those of the first n rows that have a mint, in order
+unfoldable pub sortTo : List ℕ → ℕ → List ℕ
+sortTo t zero = []
+sortTo t (suc r) = let l = sortTo t r in cond (ltb 1 (stateAt t r)) (putIn l (spotIn t r l) r) l
+
+-- a row as it is written: account, mint, mark
+unfoldable pub rowBytes : List ℕ → ℕ → List ℕ
+rowBytes t r = take 64 (drop (r * 65) t) ++ ((stateAt t r - 2) ∷ [])
+
+unfoldable pub rowsBytes : List ℕ → List ℕ → List ℕ
+rowsBytes t [] = []
+rowsBytes t (r ∷ l) = rowBytes t r ++ rowsBytes t l
+
+-- the mint of row r, or the stand-in z where it has none
+unfoldable pub mintOf : List ℕ → Key → ℕ → Key
+mintOf t z r = cond (ltb 1 (stateAt t r)) (mintAt t r) z
+
+-- the mints of the rows of the first n key indexes
+unfoldable pub mintsTo : List ℕ → List ℕ → ℕ → List ℕ
+mintsTo t row zero = []
+mintsTo t row (suc i) = mintsTo t row i ++ mintOf t zeroKey (getD row i 0)

@@ -1,0 +1,172 @@
+// Mints: which mint each account holds, from what is recorded and what plain transfers hand on.
+//
+// `infer` answers how many rows table 0 needs and has, and after how many passes; it leaves these rows, ascending by account, and the final mint of each
+// key index. Each key is searched once, in a linear table; evidence, passes, marks and lookups go by row numbers.
+ghost use mathlib.Core.Path.{_≡_};
+ghost use Prim.Native.Nat.{_≤_};
+ghost use lib.ListN.{length, take};
+ghost use lib.Seq.{sets};
+ghost use Rattle.wire.specs.Zeros.{zeros};
+ghost use Rattle.ids.specs.Keys.{keyCount, keyOf};
+ghost use Rattle.mints.specs.Bytes.{mintAmong};
+ghost use Rattle.mints.specs.Cells.{Fits};
+ghost use Rattle.mints.specs.Prepare.{laidOf, gatheredOf};
+ghost use Rattle.mints.specs.Order.{sortTo, rowsBytes, mintsTo};
+ghost use Rattle.mints.specs.Inference.{inferredIn, answerOf, rowsOf, finalOf};
+
+mod notes;
+mod order;
+mod pass;
+mod table;
+
+// The room that table 0 needs, its rows, and the passes; or that the passes are too many.
+pub enum Inferred {
+    Made(usize, usize, usize),
+    TooManyPasses,
+}
+
+// The rows of the keys, the accounts recorded in them, and the plain transfers.
+struct Ready {
+    rows: usize,
+    room: usize,
+    count: usize,
+}
+
+// Lays the rows of the keys, notes all evidence in them, and lists the plain transfers.
+fn prepare(
+    keys: &[u8],
+    balances: &[u8],
+    pack: &[u8],
+    at: &[u32],
+    table: &mut [u8],
+    row: &mut [u32],
+    from: &mut [u32],
+    to: &mut [u32],
+) -> Ready
+    requires { ⌜ (length (now keys) ≤ 8448) × (length (now at) ≤ 1024) ⌝ }
+    requires { ⌜ (now table ≡ zeros 16705) × (now row ≡ zeros 256) × (now from ≡ zeros 1024) × (now to ≡ zeros 1024) ⌝ }
+    ensures { λ r. ⌜ (gatheredOf (now (keys .entry)) (now (balances .entry)) (now (pack .entry)) (now (at .entry)) ≡ record { noted = record { table = now (table .exit); room = r .room }; from = now (from .exit); to = now (to .exit); count = r .count }) × (now (row .exit) ≡ laidOf (now (keys .entry)) .row) × (r .rows ≡ laidOf (now (keys .entry)) .rows) ⌝ }
+{
+    let rows = table::lay(keys, table, row);
+    let recorded = notes::note_balances(balances, row, table);
+    let g = notes::gather(keys, pack, at, row, table, from, to, recorded);
+    Ready {
+        rows,
+        room: g.room,
+        count: g.count,
+    }
+}
+
+// Writes the rows with a mint, ascending, and the mints of the first n key indexes; answers how many rows.
+fn publish(
+    table: &[u8],
+    rows: usize,
+    row: &[u32],
+    n: usize,
+    out: &mut [u8],
+    known: &mut [u8],
+) -> usize
+    requires { ⌜ (rows ≤ 257) × (n ≤ length (now row)) × (n ≤ 256) × (length (now table) ≡ 16705) × Fits (now table) (now row) ⌝ }
+    ensures { λ k. ⌜ (k ≡ length (sortTo (now (table .entry)) rows)) × (now (out .exit) ≡ sets (now (out .entry)) 0 (rowsBytes (now (table .entry)) (sortTo (now (table .entry)) rows))) × (now (known .exit) ≡ sets (now (known .entry)) 0 (mintsTo (now (table .entry)) (now (row .entry)) n)) ⌝ }
+{
+    let mut order = [0u32; 257];
+    let k = order::sort(table, rows, &mut order);
+    order::write_rows(table, &order, k, out);
+    order::write_mints(table, row, n, known);
+    k
+}
+
+// All of it, in tables that are lent.
+fn work(
+    keys: &[u8],
+    balances: &[u8],
+    pack: &[u8],
+    at: &[u32],
+    table: &mut [u8],
+    row: &mut [u32],
+    from: &mut [u32],
+    to: &mut [u32],
+    rows: &mut [u8],
+    known: &mut [u8],
+) -> Inferred
+    requires { ⌜ (length (now keys) ≤ 8448) × (length (now at) ≤ 1024) ⌝ }
+    requires { ⌜ (now table ≡ zeros 16705) × (now row ≡ zeros 256) × (now from ≡ zeros 1024) × (now to ≡ zeros 1024) ⌝ }
+    ensures { λ r. ⌜ r ≡ answerOf (inferredIn (now (keys .entry)) (now (balances .entry)) (now (pack .entry)) (now (at .entry))) ⌝ }
+    ensures { λ _. ⌜ now (rows .exit) ≡ sets (now (rows .entry)) 0 (rowsOf (inferredIn (now (keys .entry)) (now (balances .entry)) (now (pack .entry)) (now (at .entry)))) ⌝ }
+    ensures { λ _. ⌜ now (known .exit) ≡ sets (now (known .entry)) 0 (finalOf (inferredIn (now (keys .entry)) (now (balances .entry)) (now (pack .entry)) (now (at .entry))) (keyOf (now (keys .entry))) (keyCount (now (keys .entry)))) ⌝ }
+{
+    let ready = prepare(keys, balances, pack, at, table, row, from, to);
+    let count = ready.count;
+    let ran = pass::run(table, from, to, count, ready.room);
+    if ran.passes == 513 {
+        return Inferred::TooManyPasses;
+    }
+    pass::doubts(table, from, to, count);
+    let k = publish(table, ready.rows, row, ids::key_count(keys), rows, known);
+    Inferred::Made(ran.room, k, ran.passes)
+}
+
+// The first 256 rows of a key section: no pack that is read has more.
+fn first_keys(keys: &[u8]) -> &[u8]
+    ensures { λ r. ⌜ now r ≡ take 8448 (now (keys .entry)) ⌝ }
+{
+    if 8448 < keys.len() {
+        &keys[0..8448]
+    } else {
+        keys
+    }
+}
+
+// The first 1,024 offsets.
+fn first_offsets(at: &[u32]) -> &[u32]
+    ensures { λ r. ⌜ now r ≡ take 1024 (now (at .entry)) ⌝ }
+{
+    if 1024 < at.len() { &at[0..1024] } else { at }
+}
+
+// The mint table: its rows into `rows`, and the final mint of each key index, 32 bytes, into `known`.
+//
+// `at` are the offsets of the invocations' instructions in the pack. Of the keys the first 256 count, of the invocations the first 1,024.
+pub fn infer(
+    keys: &[u8],
+    balances: &[u8],
+    pack: &[u8],
+    at: &[u32],
+    rows: &mut [u8],
+    known: &mut [u8],
+) -> Inferred
+    ensures { λ r. ⌜ r ≡ answerOf (inferredIn (take 8448 (now (keys .entry))) (now (balances .entry)) (now (pack .entry)) (take 1024 (now (at .entry)))) ⌝ }
+    ensures { λ _. ⌜ now (rows .exit) ≡ sets (now (rows .entry)) 0 (rowsOf (inferredIn (take 8448 (now (keys .entry))) (now (balances .entry)) (now (pack .entry)) (take 1024 (now (at .entry))))) ⌝ }
+    ensures { λ _. ⌜ now (known .exit) ≡ sets (now (known .entry)) 0 (finalOf (inferredIn (take 8448 (now (keys .entry))) (now (balances .entry)) (now (pack .entry)) (take 1024 (now (at .entry)))) (keyOf (take 8448 (now (keys .entry)))) (keyCount (take 8448 (now (keys .entry))))) ⌝ }
+{
+    let keys = first_keys(keys);
+    let at = first_offsets(at);
+    let mut table = [0u8; 16705];
+    let mut row = [0u32; 256];
+    let mut from = [0u32; 1024];
+    let mut to = [0u32; 1024];
+    work(
+        keys,
+        balances,
+        pack,
+        at,
+        &mut table,
+        &mut row,
+        &mut from,
+        &mut to,
+        rows,
+        known,
+    )
+}
+
+// The final mint of a key index: a part of what `infer` left in `known`, or the stand-in.
+pub fn mint<'a>(known: &'a [u8], blank: &'a [u8], index: usize) -> &'a [u8]
+    ensures { λ r. ⌜ now r ≡ mintAmong (now (known .entry)) (now (blank .entry)) index ⌝ }
+{
+    if index < known.len() / 32 {
+        let at = index * 32;
+        &known[at..at + 32]
+    } else {
+        blank
+    }
+}

@@ -1,0 +1,192 @@
+// Evidence into the table: a first mint is recorded, another one makes the account ambiguous for good.
+ghost use mathlib.Core.Path.{_≡_};
+ghost use Prim.Native.Nat.{_+_, _*_, _/_, _≤_};
+ghost use mathlib.Core.Bool.{cond};
+ghost use lib.Dec.{ltb};
+ghost use lib.ListN.{length, getD};
+ghost use Rattle.ids.specs.Keys.{keyAt, keyOf};
+ghost use Rattle.mints.specs.Cells.{Fits};
+ghost use Rattle.mints.specs.Gather.{rowOf, noteAccount, observed, isPlain, tokenAt, Gathers};
+ghost use Rattle.mints.specs.Note.{recordAt, newAt, balancesTo};
+use token::Token;
+
+// The row of a key index: row 0, the zero key's, past the keys.
+pub(crate) fn row_of(row: &[u32], index: usize) -> usize
+    ensures { λ r. ⌜ r ≡ getD (now (row .entry)) index 0 ⌝ }
+{
+    if index < row.len() {
+        row[index] as usize
+    } else {
+        0
+    }
+}
+
+// Records a mint in a row; answers how many accounts more are recorded.
+pub(crate) fn note(table: &mut [u8], r: usize, mint: &[u8]) -> usize
+    requires { ⌜ (length (now mint) ≡ 32) × (r * 65 + 65 ≤ length (now table)) ⌝ }
+    ensures { λ n. ⌜ (now (table .exit) ≡ recordAt (now (table .entry)) r (now (mint .entry))) × (n ≡ newAt (now (table .entry)) r (now (mint .entry))) ⌝ }
+{
+    let blank = [0u8; 32];
+    if wire::equal(mint, &blank) {
+        return 0;
+    }
+    let at = r * 65 + 32;
+    let state = table[r * 65 + 64];
+    if state == 0 {
+        wire::put(table, at, mint);
+        table[r * 65 + 64] = 2;
+        return 1;
+    }
+    if state != 2 {
+        return 0;
+    }
+    if wire::equal(mint, &table[at..at + 32]) {
+        return 0;
+    }
+    table[r * 65 + 64] = 1;
+    0
+}
+
+// Records the balance rows; answers how many accounts are recorded.
+pub(crate) fn note_balances(balances: &[u8], row: &[u32], table: &mut [u8]) -> usize
+    requires { ⌜ Fits (now table) (now row) ⌝ }
+    ensures { λ n. ⌜ (now (table .exit) ≡ balancesTo (now (balances .entry)) (now (row .entry)) (now (table .entry)) (length (now (balances .entry)) / 36) .table) × (n ≡ balancesTo (now (balances .entry)) (now (row .entry)) (now (table .entry)) (length (now (balances .entry)) / 36) .room) ⌝ }
+{
+    let mut room = 0;
+    let mut i = 0;
+    while i < balances.len() / 36 {
+        let at = i * 36;
+        let r = row_of(row, wire::u32_at(balances, at) as usize);
+        room += note(table, r, &balances[at + 4..at + 36]);
+        i += 1;
+    }
+    room
+}
+
+// The row of an instruction's account i.
+fn account_row(row: &[u32], accounts: &[u8], i: usize) -> usize
+    ensures { λ r. ⌜ r ≡ rowOf (now (row .entry)) (now (accounts .entry)) i ⌝ }
+{
+    if i < accounts.len() {
+        row_of(row, wire::byte(accounts, i) as usize)
+    } else {
+        0
+    }
+}
+
+// The key of an instruction's account i, or the stand-in.
+fn account_key<'a>(keys: &'a [u8], blank: &'a [u8], accounts: &[u8], i: usize) -> &'a [u8]
+    ensures { λ r. ⌜ now r ≡ cond (ltb i (length (now (accounts .entry)))) (keyAt (now (keys .entry)) (now (blank .entry)) (getD (now (accounts .entry)) i 0)) (now (blank .entry)) ⌝ }
+{
+    if i < accounts.len() {
+        ids::key(keys, blank, wire::byte(accounts, i) as usize)
+    } else {
+        blank
+    }
+}
+
+// Records the mint that account 1 names for account i; answers how many accounts are recorded then.
+fn note_account(
+    keys: &[u8],
+    accounts: &[u8],
+    row: &[u32],
+    table: &mut [u8],
+    room: usize,
+    i: usize,
+) -> usize
+    requires { ⌜ (room ≤ 2305843009213693952) × Fits (now table) (now row) ⌝ }
+    ensures { λ n. ⌜ (now (table .exit) ≡ noteAccount (keyOf (now (keys .entry))) (now (row .entry)) (now (accounts .entry)) (record { table = now (table .entry); room = room }) i .table) × (n ≡ noteAccount (keyOf (now (keys .entry))) (now (row .entry)) (now (accounts .entry)) (record { table = now (table .entry); room = room }) i .room) ⌝ }
+{
+    let blank = [0u8; 32];
+    let mint = account_key(keys, &blank, accounts, 1);
+    let r = account_row(row, accounts, i);
+    room + note(table, r, mint)
+}
+
+// Records what a token instruction tells; answers how many accounts are recorded then.
+fn observe(
+    token: Token,
+    keys: &[u8],
+    accounts: &[u8],
+    row: &[u32],
+    table: &mut [u8],
+    room: usize,
+) -> usize
+    requires { ⌜ (room ≤ 1152921504606846976) × Fits (now table) (now row) ⌝ }
+    ensures { λ n. ⌜ (now (table .exit) ≡ observed (keyOf (now (keys .entry))) (now (row .entry)) token (now (accounts .entry)) (record { table = now (table .entry); room = room }) .table) × (n ≡ observed (keyOf (now (keys .entry))) (now (row .entry)) token (now (accounts .entry)) (record { table = now (table .entry); room = room }) .room) ⌝ }
+{
+    match token {
+        Token::Other => room,
+        Token::Initialise => note_account(keys, accounts, row, table, room, 0),
+        Token::Plain(_) => room,
+        Token::Checked(_) => {
+            let n = note_account(keys, accounts, row, table, room, 0);
+            note_account(keys, accounts, row, table, n, 2)
+        }
+        Token::WithFee(_, _) => {
+            let n = note_account(keys, accounts, row, table, room, 0);
+            note_account(keys, accounts, row, table, n, 2)
+        }
+    }
+}
+
+fn is_plain(token: Token) -> bool
+    ensures { λ r. ⌜ r ≡ isPlain token ⌝ }
+{
+    match token {
+        Token::Plain(_) => true,
+        Token::Other => false,
+        Token::Initialise => false,
+        Token::Checked(_) => false,
+        Token::WithFee(_, _) => false,
+    }
+}
+
+// The token instruction at an offset of the pack.
+fn token_at(keys: &[u8], pack: &[u8], at: usize) -> Token
+    ensures { λ r. ⌜ r ≡ tokenAt (now (keys .entry)) (now (pack .entry)) at ⌝ }
+{
+    let id = ids::program(keys, pack::program(pack, at) as usize);
+    let n = pack::accounts(pack, at).len();
+    token::parse(id, n, pack::data(pack, at))
+}
+
+// How many accounts are recorded, and how many plain transfers there are.
+pub struct Gathered {
+    pub room: usize,
+    pub count: usize,
+}
+
+// Records the evidence of the instructions at the offsets, and lists the rows of their plain transfers' sources and destinations.
+pub(crate) fn gather(
+    keys: &[u8],
+    pack: &[u8],
+    at: &[u32],
+    row: &[u32],
+    table: &mut [u8],
+    from: &mut [u32],
+    to: &mut [u32],
+    recorded: usize,
+) -> Gathered
+    requires { ⌜ (length (now at) ≤ length (now from)) × (length (now at) ≤ length (now to)) × (length (now at) ≤ 1024) × (recorded ≤ 576460752303423488) ⌝ }
+    requires { ⌜ (length (now table) ≤ 65536) × Fits (now table) (now row) ⌝ }
+    ensures { λ r. ⌜ Gathers (now (keys .entry)) (now (pack .entry)) (now (at .entry)) (now (row .entry)) (now (table .entry)) (now (from .entry)) (now (to .entry)) recorded (now (table .exit)) (now (from .exit)) (now (to .exit)) (r .room) (r .count) ⌝ }
+{
+    let mut room = recorded;
+    let mut count = 0;
+    let mut i = 0;
+    while i < at.len() {
+        let o = at[i] as usize;
+        i += 1;
+        let accounts = pack::accounts(pack, o);
+        let token = token_at(keys, pack, o);
+        room = observe(token, keys, accounts, row, table, room);
+        if !is_plain(token) {
+            continue;
+        }
+        from[count] = account_row(row, accounts, 0) as u32;
+        to[count] = account_row(row, accounts, 1) as u32;
+        count += 1;
+    }
+    Gathered { room, count }
+}

@@ -1,0 +1,125 @@
+// The table as it is written: rows with a mint, ascending by account bytes; and the mint of each key index.
+ghost use mathlib.Core.Path.{_≡_};
+ghost use Prim.Native.Nat.{suc, _+_, _-_, _*_, _≤_, _<_};
+ghost use lib.ListN.{length, take};
+ghost use lib.Seq.{sets};
+ghost use Rattle.evidence.specs.Keys.{ltKey};
+ghost use Rattle.mints.specs.Cells.{Fits};
+ghost use Rattle.mints.specs.Order.{spotIn, putIn, sortTo, rowsBytes, mintOf, mintsTo};
+
+// Whether a comes before b: the first byte that differs decides.
+fn less(a: &[u8], b: &[u8]) -> bool
+    ensures { λ r. ⌜ r ≡ ltKey (now (a .entry)) (now (b .entry)) ⌝ }
+{
+    let mut i = 0;
+    while i < a.len() {
+        if b.len() <= i {
+            return false;
+        }
+        if a[i] < b[i] {
+            return true;
+        }
+        if b[i] < a[i] {
+            return false;
+        }
+        i += 1;
+    }
+    i < b.len()
+}
+
+// The place of row r among the first k of the ordered rows: before the first whose account is greater.
+fn spot(table: &[u8], order: &[u32], k: usize, r: usize) -> usize
+    requires { ⌜ (k ≤ length (now order)) × (r * 65 + 65 ≤ length (now table)) × Fits (now table) (take k (now order)) ⌝ }
+    ensures { λ j. ⌜ j ≡ spotIn (now (table .entry)) r (take k (now (order .entry))) ⌝ }
+{
+    let x = r * 65;
+    let mut j = 0;
+    while j < k {
+        let y = order[j] as usize * 65;
+        if less(&table[x..x + 32], &table[y..y + 32]) {
+            return j;
+        }
+        j += 1;
+    }
+    k
+}
+
+// Puts r in at place j of the first k.
+fn insert(order: &mut [u32], j: usize, k: usize, r: u32)
+    requires { ⌜ (j ≤ k) × (k < length (now order)) ⌝ }
+    ensures { λ _. ⌜ take (suc k) (now (order .exit)) ≡ putIn (take k (now (order .entry))) j r ⌝ }
+{
+    let mut i = k;
+    while j < i {
+        i -= 1;
+        order[i + 1] = order[i];
+    }
+    order[j] = r;
+}
+
+// The rows with a mint, in order; answers how many they are.
+pub(crate) fn sort(table: &[u8], rows: usize, order: &mut [u32]) -> usize
+    requires { ⌜ (rows ≤ length (now order)) × (rows * 65 ≤ length (now table)) × (length (now table) ≤ 65536) ⌝ }
+    ensures { λ k. ⌜ (k ≡ length (sortTo (now (table .entry)) rows)) × (take k (now (order .exit)) ≡ sortTo (now (table .entry)) rows) ⌝ }
+{
+    let mut k = 0;
+    let mut next = 0;
+    while next < rows {
+        let r = next;
+        next += 1;
+        if table[r * 65 + 64] <= 1 {
+            continue;
+        }
+        let j = spot(table, order, k, r);
+        insert(order, j, k, r as u32);
+        k += 1;
+    }
+    k
+}
+
+// The mark of a state: 0 recorded, 1 filled in, 2 filled in and in doubt.
+fn mark_of(state: u8) -> u8
+    ensures { λ r. ⌜ r ≡ state - 2 ⌝ }
+{
+    if state < 2 { 0 } else { state - 2 }
+}
+
+// Writes the first k of the ordered rows: account, mint, mark.
+pub(crate) fn write_rows(table: &[u8], order: &[u32], k: usize, out: &mut [u8])
+    requires { ⌜ (k ≤ length (now order)) × (k ≤ 65536) × Fits (now table) (take k (now order)) ⌝ }
+    ensures { λ _. ⌜ now (out .exit) ≡ sets (now (out .entry)) 0 (rowsBytes (now (table .entry)) (take k (now (order .entry)))) ⌝ }
+{
+    let mut j = 0;
+    while j < k {
+        let x = order[j] as usize * 65;
+        wire::put(out, j * 65, &table[x..x + 64]);
+        wire::put_byte(out, j * 65 + 64, mark_of(table[x + 64]));
+        j += 1;
+    }
+}
+
+// The mint of a row, or the stand-in where it has none.
+fn mint_of<'a>(table: &'a [u8], blank: &'a [u8], r: usize) -> &'a [u8]
+    requires { ⌜ (r * 65 + 65 ≤ length (now table)) ⌝ }
+    ensures { λ m. ⌜ now m ≡ mintOf (now (table .entry)) (now (blank .entry)) r ⌝ }
+{
+    let x = r * 65 + 32;
+    if 1 < table[r * 65 + 64] {
+        &table[x..x + 32]
+    } else {
+        blank
+    }
+}
+
+// Writes the mints of the first n key indexes, zero for those that have none.
+pub(crate) fn write_mints(table: &[u8], row: &[u32], n: usize, out: &mut [u8])
+    requires { ⌜ (n ≤ length (now row)) × (n ≤ 65536) × Fits (now table) (now row) ⌝ }
+    ensures { λ _. ⌜ now (out .exit) ≡ sets (now (out .entry)) 0 (mintsTo (now (table .entry)) (now (row .entry)) n) ⌝ }
+{
+    let blank = [0u8; 32];
+    let mut i = 0;
+    while i < n {
+        wire::put(out, i * 32, mint_of(table, &blank, row[i] as usize));
+        i += 1;
+    }
+}

@@ -1,0 +1,131 @@
+// Plain transfers over the table: they hand a mint to the end that has none, pass after pass; afterwards they tell which filled-in mints are in doubt.
+//
+// A transfer is two row numbers, found once for each key, so a step looks at two state bytes and searches nothing.
+ghost use mathlib.Core.Path.{_≡_};
+ghost use mathlib.Core.Logic.{_≢_};
+ghost use Prim.Native.Nat.{_+_, _*_, _≤_};
+ghost use lib.ListN.{length};
+ghost use Rattle.mints.specs.Cells.{Fits};
+ghost use Rattle.mints.specs.Pass.{handAt, stepAt, filledAt, passTo, passes, differAt, doubtAt, doubtsTo};
+
+// Copies the mint of row a to row b, which is then filled in.
+fn hand(table: &mut [u8], a: usize, b: usize)
+    requires { ⌜ (a ≢ b) × (a * 65 + 65 ≤ length (now table)) × (b * 65 + 65 ≤ length (now table)) ⌝ }
+    ensures { λ _. ⌜ now (table .exit) ≡ handAt (now (table .entry)) a b ⌝ }
+{
+    let mut j = 0;
+    while j < 32 {
+        table[b * 65 + 32 + j] = table[a * 65 + 32 + j];
+        j += 1;
+    }
+    table[b * 65 + 64] = 3;
+}
+
+// One transfer: where one end has a mint and the other has none, hands it on. Answers how many accounts are filled in.
+fn step(table: &mut [u8], a: usize, b: usize) -> usize
+    requires { ⌜ (a * 65 + 65 ≤ length (now table)) × (b * 65 + 65 ≤ length (now table)) ⌝ }
+    ensures { λ n. ⌜ (now (table .exit) ≡ stepAt (now (table .entry)) a b) × (n ≡ filledAt (now (table .entry)) a b) ⌝ }
+{
+    let x = table[a * 65 + 64];
+    let y = table[b * 65 + 64];
+    if x == 0 {
+        if 1 < y {
+            hand(table, b, a);
+            return 1;
+        }
+        return 0;
+    }
+    if y != 0 {
+        return 0;
+    }
+    if 1 < x {
+        hand(table, a, b);
+        return 1;
+    }
+    0
+}
+
+// One pass over the n transfers; answers how many accounts are filled in.
+fn pass(table: &mut [u8], from: &[u32], to: &[u32], n: usize) -> usize
+    requires { ⌜ (n ≤ length (now from)) × (n ≤ length (now to)) × Fits (now table) (now from) × Fits (now table) (now to) ⌝ }
+    ensures { λ k. ⌜ (now (table .exit) ≡ passTo (now (from .entry)) (now (to .entry)) (now (table .entry)) n .table) × (k ≡ passTo (now (from .entry)) (now (to .entry)) (now (table .entry)) n .room) ⌝ }
+{
+    let mut added = 0;
+    let mut i = 0;
+    while i < n {
+        added += step(table, from[i] as usize, to[i] as usize);
+        i += 1;
+    }
+    added
+}
+
+pub struct Ran {
+    pub passes: usize,
+    pub room: usize,
+}
+
+// Passes until one adds nothing, at most 512 (513 tells that these are too few); none where nothing is recorded.
+pub(crate) fn run(table: &mut [u8], from: &[u32], to: &[u32], n: usize, recorded: usize) -> Ran
+    requires { ⌜ (n ≤ 1024) × (recorded ≤ 1152921504606846976) ⌝ }
+    requires { ⌜ (n ≤ length (now from)) × (n ≤ length (now to)) × Fits (now table) (now from) × Fits (now table) (now to) ⌝ }
+    ensures { λ r. ⌜ (now (table .exit) ≡ passes (now (from .entry)) (now (to .entry)) n (now (table .entry)) recorded .table) × (r .room ≡ passes (now (from .entry)) (now (to .entry)) n (now (table .entry)) recorded .room) × (r .passes ≡ passes (now (from .entry)) (now (to .entry)) n (now (table .entry)) recorded .passes) ⌝ }
+{
+    let mut room = recorded;
+    if room == 0 {
+        return Ran { passes: 0, room };
+    }
+    let mut p = 0;
+    while p < 512 {
+        let added = pass(table, from, to, n);
+        p += 1;
+        if added == 0 {
+            return Ran { passes: p, room };
+        }
+        room += added;
+    }
+    Ran { passes: 513, room }
+}
+
+// Whether both rows have a mint, and different ones.
+fn differ(table: &[u8], a: usize, b: usize) -> bool
+    requires { ⌜ (a * 65 + 65 ≤ length (now table)) × (b * 65 + 65 ≤ length (now table)) ⌝ }
+    ensures { λ r. ⌜ r ≡ differAt (now (table .entry)) a b ⌝ }
+{
+    if table[a * 65 + 64] <= 1 {
+        return false;
+    }
+    if table[b * 65 + 64] <= 1 {
+        return false;
+    }
+    let x = a * 65 + 32;
+    let y = b * 65 + 32;
+    !wire::equal(&table[x..x + 32], &table[y..y + 32])
+}
+
+// Marks a row that is filled in.
+fn doubt(table: &mut [u8], r: usize)
+    requires { ⌜ r * 65 + 65 ≤ length (now table) ⌝ }
+    ensures { λ _. ⌜ now (table .exit) ≡ doubtAt (now (table .entry)) r ⌝ }
+{
+    if table[r * 65 + 64] == 3 {
+        table[r * 65 + 64] = 4;
+    }
+}
+
+// Marks the filled-in ends of every transfer whose ends have different mints.
+pub(crate) fn doubts(table: &mut [u8], from: &[u32], to: &[u32], n: usize)
+    requires { ⌜ (n ≤ length (now from)) × (n ≤ length (now to)) × Fits (now table) (now from) × Fits (now table) (now to) ⌝ }
+    ensures { λ _. ⌜ now (table .exit) ≡ doubtsTo (now (from .entry)) (now (to .entry)) (now (table .entry)) n ⌝ }
+{
+    let mut i = 0;
+    while i < n {
+        let a = from[i] as usize;
+        let b = to[i] as usize;
+        i += 1;
+        if !differ(table, a, b) {
+            continue;
+        }
+        doubt(table, a);
+        doubt(table, b);
+    }
+}

@@ -1,0 +1,67 @@
+// The table of accounts: 65-byte rows (account 32, mint 32, state 1), one for each distinct key.
+//
+// Row 0 is the zero key's. It is ambiguous (state 1) from the start, so a missing account records nothing, hands on nothing and is never written, and
+// no other function has to look for it.
+ghost use mathlib.Core.Path.{_≡_};
+ghost use mathlib.Core.Bool.{cond};
+ghost use Prim.Native.Nat.{suc, _*_, _≤_};
+ghost use lib.Dec.{eqb};
+ghost use lib.ListN.{length};
+ghost use lib.Seq.{sets};
+ghost use Rattle.ids.specs.Keys.{keyCount, keyOf};
+ghost use Rattle.mints.specs.Cells.{firstRow};
+ghost use Rattle.mints.specs.Lay.{laid};
+
+// The first of the table's rows that holds the key, or `rows` where none does.
+fn find(table: &[u8], rows: usize, key: &[u8]) -> usize
+    requires { ⌜ (length (now key) ≡ 32) × (rows * 65 ≤ length (now table)) ⌝ }
+    ensures { λ r. ⌜ r ≡ firstRow (now (table .entry)) (now (key .entry)) rows ⌝ }
+{
+    let mut i = 0;
+    let found = 'rows: loop {
+        if rows <= i {
+            break 'rows rows;
+        }
+        let mut j = 0;
+        while j < 32 {
+            if table[i * 65 + j] != key[j] {
+                i += 1;
+                continue 'rows;
+            }
+            j += 1;
+        }
+        break 'rows i;
+    };
+    found
+}
+
+// Adds a row for the key where the search found none; answers how many rows there are then.
+fn add(table: &mut [u8], rows: usize, r: usize, key: &[u8]) -> usize
+    requires { ⌜ suc rows * 65 ≤ length (now table) ⌝ }
+    ensures { λ n. ⌜ (now (table .exit) ≡ cond (eqb r rows) (sets (now (table .entry)) (r * 65) (now (key .entry))) (now (table .entry))) × (n ≡ cond (eqb r rows) (suc rows) rows) ⌝ }
+{
+    if r == rows {
+        wire::put(table, r * 65, key);
+        return rows + 1;
+    }
+    rows
+}
+
+// Lays the rows of the keys into the table, and the row of each key index into `row`; answers how many rows there are.
+pub(crate) fn lay(keys: &[u8], table: &mut [u8], row: &mut [u32]) -> usize
+    requires { ⌜ (keyCount (now keys) ≤ length (now row)) × (suc (keyCount (now keys)) * 65 ≤ length (now table)) × (length (now table) ≤ 65536) ⌝ }
+    ensures { λ n. ⌜ (now (table .exit) ≡ laid (keyOf (now (keys .entry))) (now (table .entry)) (now (row .entry)) (keyCount (now (keys .entry))) .table) × (now (row .exit) ≡ laid (keyOf (now (keys .entry))) (now (table .entry)) (now (row .entry)) (keyCount (now (keys .entry))) .row) × (n ≡ laid (keyOf (now (keys .entry))) (now (table .entry)) (now (row .entry)) (keyCount (now (keys .entry))) .rows) ⌝ }
+{
+    let blank = [0u8; 32];
+    table[64] = 1;
+    let mut rows = 1;
+    let mut i = 0;
+    while i < keys.len() / 33 {
+        let key = ids::key(keys, &blank, i);
+        let r = find(table, rows, key);
+        rows = add(table, rows, r, key);
+        row[i] = r as u32;
+        i += 1;
+    }
+    rows
+}

@@ -1,0 +1,38 @@
+-- What is written of an action that is known by its index bytes.
+-- Assumes nothing.
+use mathlib.Core.Path.{_≡_, refl}
+use mathlib.Core.List.{List}
+use Prim.Native.Nat.{ℕ, _*_, _≤_}
+use native.Mathlib.Omega.{arith}
+use lib.ListN.{length}
+use lib.Seq.{sets}
+use Rattle.ids.specs.Keys.{Key}
+use Rattle.natives.specs.declared.Native.{Native}
+use Rattle.natives.specs.declared.Native.the-variants.{Nothing, Fund, Sync, Close}
+use Rattle.natives.specs.Numbers.{valueOf}
+use Rattle.natives.specs.Rows.{rowBy, rowsOf}
+use Rattle.route.specs.Lay.{placed}
+use Rattle.route.specs.Known.{rowIf}
+use Rattle.route.specs.Actions.{actionCount}
+
+pub count-le : (n : Native) → actionCount n ≤ 1
+count-le Nothing = omega arith
+count-le (Fund h s l) = omega arith
+count-le (Sync h) = omega arith
+count-le (Close h d a) = omega arith
+
+-- κ gives the key of an index
+module _ (κ : ℕ → Key) (i : ℕ) where
+  pub row-counted : (n : Native) → actionCount n ≡ length (rowIf (λ a. rowBy i (a .held) (a .action)) (valueOf κ n))
+  row-counted Nothing = refl
+  row-counted (Fund h s l) = refl
+  row-counted (Sync h) = refl
+  row-counted (Close h d a) = refl
+
+  pub row-placed : (n : Native) (out : List ℕ) (k : ℕ)
+      → sets out (k * 109) (rowsOf i (valueOf κ n)) ≡ placed 109 k (rowIf (λ a. rowBy i (a .held) (a .action)) (valueOf κ n)) out
+  unfolding placed
+  row-placed Nothing out k = refl
+  row-placed (Fund h s l) out k = refl
+  row-placed (Sync h) out k = refl
+  row-placed (Close h d a) out k = refl

@@ -1,0 +1,107 @@
+-- What `flatten`, `infer` and `finish` promise of a pack with a good verdict, put together.
+-- Assumes nothing.
+use mathlib.Core.Path.{_≡_, refl, sym, ap, _∙_}
+use mathlib.Core.Option.{Option, none, some}
+use mathlib.Core.List.{List, [], map}
+use Prim.Native.Nat.{ℕ, _-_, _+_, _*_, _/_, _%_, _≤_, _<_}
+use native.Mathlib.Nat.{sub-zero}
+use native.Mathlib.Omega.{arith}
+use borrow.Author.Tests.{eqb-true}
+use lib.ListN.{length, getD, take, drop, length-map, length-replicate}
+use lib.Seq.{sets, length-sets, take-all, length-take-le, getD-take}
+use Rattle.wire.specs.Below.{and-left}
+use Rattle.wire.specs.Zeros.{zeros}
+use Rattle.ids.specs.Keys.{keyOf, keyCount}
+use Rattle.ids.specs.Which.{programAt}
+use Rattle.pack.specs.Invocation.{Instruction, Position, Invocation, instructionAt, positionAt}
+use Rattle.pack.specs.Sections.{sectionOf}
+use Rattle.pack.specs.Items.{keysFill, rowsFill, rows}
+use Rattle.pack.specs.View.{viewOf, balancesIn, poolsIn}
+use Rattle.pack.specs.Flatten.{flatten}
+use Rattle.pack.specs.Layout.{Flattened, atOf, layout}
+use Rattle.pack.specs.Verdict.{verdict, numberOf}
+use Rattle.pack.proofs.Good.{passed}
+use Rattle.pack.proofs.Entries.{count-is, entry}
+use Rattle.evidence.specs.MintTable.{MintRow, Answer}
+use Rattle.mints.specs.Inference.{balanceSays, says, moves, evidenceOf, transfersOf, inferred, inferredIn, answerOf, rowsOf as rowsIn, finalOf}
+use Rattle.mints.specs.Bytes.{tableBytes, mintsOf as finalMints}
+use Rattle.mints.specs.declared.Inferred.{Inferred}
+use Rattle.subtrees.specs.Subtrees.{tab, positions}
+use Rattle.subtrees.proofs.Arrays.{tab-length}
+use Rattle.swaps.specs.Row.{poolsOf}
+use Rattle.route.specs.Arrays.{itemAt}
+use Rattle.route.specs.Tables.{positionsOf, instructionsOf, tablesWith, tablesIf, tables}
+use Rattle.route.specs.Route.{tablesIn}
+use Rattle.route.specs.Order.{mintsIn}
+use Rattle.route.proofs.Lists.{map-tab, is-tab, keys-rows}
+use Rattle.route.proofs.OrderMints.{few-keys}
+
+-- a position and an instruction that stand for none
+nowhere : Invocation
+nowhere = record { position = record { outer = 0; inner = none; height = none }; instruction = record { program = 0; accounts = []; bytes = [] } }
+
+-- the pools of a pack, as legs read them
+pub pools-are : (p : List ℕ) → poolsOf (sectionOf p 4) ≡ viewOf p .pools
+unfolding viewOf poolsIn
+pools-are p = keys-rows (sectionOf p 4) (length (sectionOf p 4) / 32) 0
+
+module _ (p : List ℕ) (n : ℕ) (at outer inner height : List ℕ) (e : numberOf (verdict p) ≡ 0) (w : Flattened p n at outer inner height) where
+  pub few : n ≤ 1024
+  few = omega (arith, count-is p n at outer inner height e w, passed p e .few)
+
+  pub at-length : length at ≡ 1024
+  at-length = ap length (w .ats) ∙ length-sets (zeros 1024) 0 (map atOf (layout p)) ∙ length-replicate {A = ℕ} 1024 0
+
+  -- the invocations, entry by entry
+  listed : flatten (viewOf p) ≡ tab (λ i. record { position = positionAt outer inner height i; instruction = itemAt p at i }) 0 n
+  listed =
+      is-tab nowhere (flatten (viewOf p)) _ n (sym (count-is p n at outer inner height e w)) (λ i h. entry p n at outer inner height e w i h nowhere)
+
+  pub instructions-are : instructionsOf (flatten (viewOf p)) ≡ tab (itemAt p at) 0 n
+  instructions-are = rw listed (map-tab (λ (v : Invocation). v .instruction) _ 0 n)
+
+  pub positions-are : positionsOf (flatten (viewOf p)) ≡ positions outer inner height n
+  unfolding positions
+  positions-are = rw listed (map-tab (λ (v : Invocation). v .position) _ 0 n)
+
+  -- no key is beyond the first 256
+  pub keys-all : take 8448 (sectionOf p 0) ≡ sectionOf p 0
+  unfolding keysFill rowsFill
+  keys-all =
+      let r : length (sectionOf p 0) % 33 ≡ 0 = eqb-true _ 0 (and-left _ _ (passed p e .keys)) in
+      take-all 8448 (sectionOf p 0) (omega (arith, few-keys p e))
+
+  -- the offsets that are lent are all of them
+  offsets : take n at ≡ tab (λ i. getD at i 0) 0 n
+  offsets = is-tab 0 (take n at) _ n (length-take-le n at (omega (arith, few, at-length))) (λ i h. getD-take n at i 0 h)
+
+  pub inferred-is : inferredIn (take 8448 (sectionOf p 0)) (sectionOf p 1) p (take 1024 (take n at)) ≡ mintsIn p
+  unfolding viewOf inferred evidenceOf transfersOf balanceSays says moves
+  inferred-is =
+      rw
+      (keys-all, take-all 1024 (take n at) (omega (arith, few, at-length, length-take-le n at (omega (arith, few, at-length)))), offsets, map-tab (instructionAt p) (λ i. getD at i 0) 0 n, instructions-are)
+
+  -- the tables of the pack, by the arrays
+  pub tables-are : (names : List ℕ) {x : Answer} → mintsIn p ≡ some x → tablesIn names p ≡ some (tablesWith names (sectionOf p 0) (poolsOf (sectionOf p 4)) (positions outer inner height n) (tab (itemAt p at) 0 n) x)
+  unfolding tables tablesIf
+  tables-are names q = rw (q, instructions-are, positions-are, ← (pools-are p))
+
+  -- what `infer` answers and leaves, when it is lent sections 0 and 1 and the first n offsets
+  module _ (k0 k1 : List ℕ) (h0 : k0 ≡ sectionOf p 0) (h1 : k1 ≡ sectionOf p 1) {x : Answer} (q : mintsIn p ≡ some x) where
+    same-is : inferredIn (take 8448 k0) k1 p (take 1024 (take (n - 0) (drop 0 at))) ≡ some x
+    same-is = rw (h0, h1, sub-zero n) (inferred-is ∙ q)
+
+    pub infer-answer : {r : Inferred} → r ≡ answerOf (inferredIn (take 8448 k0) k1 p (take 1024 (take (n - 0) (drop 0 at)))) → r ≡ answerOf (some x)
+    infer-answer h = h ∙ ap answerOf same-is
+
+    pub infer-rows : (t : List ℕ) {o : List ℕ} → o ≡ sets t 0 (rowsIn (inferredIn (take 8448 k0) k1 p (take 1024 (take (n - 0) (drop 0 at))))) → o ≡ sets t 0 (tableBytes (x .rows))
+    unfolding rowsIn
+    infer-rows t h = h ∙ ap (λ (y : Option Answer). sets t 0 (rowsIn y)) same-is
+
+    pub infer-known : (t : List ℕ) {o : List ℕ} → o ≡ sets t 0 (finalOf (inferredIn (take 8448 k0) k1 p (take 1024 (take (n - 0) (drop 0 at)))) (keyOf (take 8448 k0)) (keyCount (take 8448 k0)))
+        → o ≡ sets t 0 (finalMints (x .rows) (keyOf (sectionOf p 0)) (keyCount (sectionOf p 0)))
+    unfolding finalOf
+    infer-known t h =
+        h
+        ∙ ap (λ (y : Option Answer). sets t 0 (finalOf y (keyOf (take 8448 k0)) (keyCount (take 8448 k0)))) same-is
+        ∙ ap (λ (k : List ℕ). sets t 0 (finalMints (x .rows) (keyOf k) (keyCount k))) (ap (take 8448) h0 ∙ keys-all)

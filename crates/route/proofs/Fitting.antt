@@ -1,0 +1,65 @@
+-- Refusal 8 as the code decides it, by the counts alone, is that of the definition.
+-- Assumes nothing.
+use mathlib.Core.Path.{_≡_, refl}
+use mathlib.Core.Bool.{Bool, true, false, cond}
+use Prim.Native.Nat.{_/_}
+use native.Mathlib.Omega.{arith}
+use lib.Dec.{ltb}
+use lib.ListN.{length}
+use Rattle.route.specs.declared.Answer.{Answer}
+use Rattle.route.specs.Tables.{Tables}
+use Rattle.route.specs.Route.{Lent, Routed, refused, accepted, fitted}
+use Rattle.route.specs.Fit.{refusal, fits}
+
+-- five tests, one after the other
+abbrev choose : {A : Type 0} → Bool → Bool → Bool → Bool → Bool → A → A → A → A → A → A → A
+choose a b c d e v w x y z rest = cond a v (cond b w (cond c x (cond d y (cond e z rest))))
+
+answer-of : (a b c d e : Bool) (v w x y z rest : Routed) → choose a b c d e v w x y z rest .answer ≡ choose a b c d e (v .answer) (w .answer) (x .answer) (y .answer) (z .answer) (rest .answer)
+answer-of true b c d e v w x y z rest = refl
+answer-of false true c d e v w x y z rest = refl
+answer-of false false true d e v w x y z rest = refl
+answer-of false false false true e v w x y z rest = refl
+answer-of false false false false true v w x y z rest = refl
+answer-of false false false false false v w x y z rest = refl
+
+pub fit-answer : (t : Tables) (l : Lent) → fitted t l .answer ≡ fits l (t .room) (accepted t l .answer)
+unfolding fitted fits refused accepted
+fit-answer t l =
+    answer-of
+    (ltb (l .mints / 65) (t .room))
+    (ltb (l .invocations / 23) (length (t .invocations)))
+    (ltb (l .transfers / 150) (length (t .transfers)))
+    (ltb (l .legs / 250) (length (t .legs)))
+    (ltb (l .natives / 109) (length (t .natives)))
+    (refused 8 0 l)
+    (refused 8 1 l)
+    (refused 8 2 l)
+    (refused 8 3 l)
+    (refused 8 4 l)
+    (accepted t l)
+
+-- an answer that is no refusal is a success
+all-false : (a b c d e : Bool) (l : Lent) (rest : Routed)
+    → choose a b c d e (refused 8 0 l) (refused 8 1 l) (refused 8 2 l) (refused 8 3 l) (refused 8 4 l) rest .answer .number ≡ 0
+    → choose a b c d e (refused 8 0 l) (refused 8 1 l) (refused 8 2 l) (refused 8 3 l) (refused 8 4 l) rest ≡ rest
+unfolding refused
+all-false true b c d e l rest q = absurd (omega arith)
+all-false false true c d e l rest q = absurd (omega arith)
+all-false false false true d e l rest q = absurd (omega arith)
+all-false false false false true e l rest q = absurd (omega arith)
+all-false false false false false true l rest q = absurd (omega arith)
+all-false false false false false false l rest q = refl
+
+pub fit-accepted : (t : Tables) (l : Lent) → fitted t l .answer .number ≡ 0 → fitted t l ≡ accepted t l
+unfolding fitted
+fit-accepted t l q =
+    all-false
+    (ltb (l .mints / 65) (t .room))
+    (ltb (l .invocations / 23) (length (t .invocations)))
+    (ltb (l .transfers / 150) (length (t .transfers)))
+    (ltb (l .legs / 250) (length (t .legs)))
+    (ltb (l .natives / 109) (length (t .natives)))
+    l
+    (accepted t l)
+    q

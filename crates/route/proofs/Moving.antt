@@ -1,0 +1,36 @@
+-- What is written of a transfer that is known by its index bytes.
+-- Assumes nothing.
+use mathlib.Core.Path.{_≡_, refl}
+use mathlib.Core.List.{List}
+use mathlib.Core.Option.{Option}
+use Prim.Native.Nat.{ℕ, _*_, _≤_}
+use native.Mathlib.Omega.{arith}
+use lib.ListN.{length}
+use lib.Seq.{sets}
+use Rattle.ids.specs.Keys.{Key}
+use Rattle.token.specs.declared.Moved.{Moved}
+use Rattle.token.specs.declared.Moved.the-variants.{Nothing, FeeUnknown, FeeKnown}
+use Rattle.token.specs.Moved.{valueOf, sourceBy}
+use Rattle.token.specs.Rows.{rowOf, rowsOf}
+use Rattle.route.specs.Lay.{placed}
+use Rattle.route.specs.Known.{rowIf}
+use Rattle.route.specs.Transfers.{movedCount}
+
+pub count-le : (m : Moved) → movedCount m ≤ 1
+count-le Nothing = omega arith
+count-le (FeeUnknown s d a) = omega arith
+count-le (FeeKnown s d a f) = omega arith
+
+-- κ gives the key of an index, μ the final mint of a key, mint the one that is handed on
+module _ (κ : ℕ → Key) (μ : Key → Option Key) (i : ℕ) (program : Key) (mint : Option Key) where
+  pub row-counted : (m : Moved) → movedCount m ≡ length (rowIf (λ t. rowOf i program (μ (t .source)) t) (valueOf κ m))
+  row-counted Nothing = refl
+  row-counted (FeeUnknown s d a) = refl
+  row-counted (FeeKnown s d a f) = refl
+
+  pub row-placed : (m : Moved) → mint ≡ μ (κ (sourceBy m)) → (out : List ℕ) (k : ℕ)
+      → sets out (k * 150) (rowsOf i program mint (valueOf κ m)) ≡ placed 150 k (rowIf (λ t. rowOf i program (μ (t .source)) t) (valueOf κ m)) out
+  unfolding placed
+  row-placed Nothing h out k = refl
+  row-placed (FeeUnknown s d a) h out k = rw h
+  row-placed (FeeKnown s d a f) h out k = rw h

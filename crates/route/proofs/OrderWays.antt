@@ -1,0 +1,84 @@
+-- The ways in which a call ends, by the mint table of its pack.
+-- Assumes nothing.
+use mathlib.Core.Path.{_≡_, refl}
+use mathlib.Core.Bool.{Bool, true, false, cond}
+use mathlib.Core.List.{List, map}
+use mathlib.Core.Option.{Option, some}
+use Prim.Native.Nat.{ℕ, _/_, _≤_, _<_}
+use native.Mathlib.Omega.{arith}
+use lib.Dec.{ltb, eqb}
+use lib.ListN.{length}
+use borrow.Author.Tests.{ltb-true, ltb-false, eqb-true, eqb-false}
+use Rattle.pack.specs.Verdict.{verdict, numberOf, placeOf}
+use Rattle.pack.specs.declared.Verdict.{Verdict}
+use Rattle.pack.specs.declared.Verdict.the-variants.{Good, Mark, Starts, Section, Keys, Invocations}
+use Rattle.evidence.specs.MintTable.{Answer}
+use Rattle.route.specs.Tables.{mintRow, Tables, tablesWith, tablesIf, tables}
+use Rattle.route.specs.Route.{Lent, Routed, refused, accepted, fitted, passed, tablesIn, judged, route}
+use Rattle.route.specs.Order.{mintsIn}
+use Rattle.route.proofs.OrderMints.{answered}
+
+-- refused with a number from 1 to 6; or, with the mint table x, for want of room in table 0 or in a later table; or accepted
+pub data Ways (p : List ℕ) (l : Lent) : Routed → Type 0 where
+  early : (n k : ℕ) → 0 < n → n < 7 → Ways p l (refused n k l)
+  crowded : {x : Answer} → mintsIn p ≡ some x → l .mints / 65 < x .room → Ways p l (refused 8 0 l)
+  later : {x : Answer} (k : ℕ) → mintsIn p ≡ some x → x .room ≤ l .mints / 65 → 0 < k → Ways p l (refused 8 k l)
+  good : {x : Answer} (t : Tables) → mintsIn p ≡ some x → x .room ≤ l .mints / 65 → t .mints ≡ map mintRow (x .rows) → t .passes ≤ 256 → Ways p l (accepted t l)
+
+-- tables with the rows, the room and the passes of a mint table
+data Of (x : Answer) : Option Tables → Type 0 where
+  with-mints : {t : Tables} → t .mints ≡ map mintRow (x .rows) → t .room ≡ x .room → t .passes ≡ x .passes → Of x (some t)
+
+-- the tables of a pack are such
+tables-of : (names p : List ℕ) {x : Answer} → mintsIn p ≡ some x → Of x (tablesIn names p)
+unfolding tables tablesIf tablesWith
+tables-of names p q = rw q (with-mints refl refl refl)
+
+few : (v : Verdict) → numberOf v < 7
+few Good = omega arith
+few Mark = omega arith
+few Starts = omega arith
+few (Section k) = omega arith
+few Keys = omega arith
+few Invocations = omega arith
+
+module _ (p : List ℕ) (l : Lent) where
+  fitted-ways : {x : Answer} (t : Tables) → mintsIn p ≡ some x → t .mints ≡ map mintRow (x .rows) → t .room ≡ x .room → t .passes ≤ 256 → Ways p l (fitted t l)
+  unfolding fitted
+  fitted-ways {x} t q m r s =
+      go
+      (ltb (l .mints / 65) (t .room))
+      (ltb (l .invocations / 23) (length (t .invocations)))
+      (ltb (l .transfers / 150) (length (t .transfers)))
+      (ltb (l .legs / 250) (length (t .legs)))
+      (ltb (l .natives / 109) (length (t .natives)))
+      (λ e. omega (arith, ltb-true (l .mints / 65) (t .room) e))
+      (λ e. omega (arith, ltb-false (l .mints / 65) (t .room) e))
+    where
+      go : (b b1 b2 b3 b4 : Bool) → (b ≡ true → l .mints / 65 < x .room) → (b ≡ false → x .room ≤ l .mints / 65)
+          → Ways p l (cond b (refused 8 0 l) (cond b1 (refused 8 1 l) (cond b2 (refused 8 2 l) (cond b3 (refused 8 3 l) (cond b4 (refused 8 4 l) (accepted t l))))))
+      go true b1 b2 b3 b4 f h = crowded q (f refl)
+      go false true b2 b3 b4 f h = later 1 q (h refl) (omega arith)
+      go false false true b3 b4 f h = later 2 q (h refl) (omega arith)
+      go false false false true b4 f h = later 3 q (h refl) (omega arith)
+      go false false false false true f h = later 4 q (h refl) (omega arith)
+      go false false false false false f h = good t q (h refl) m s
+
+  passed-ways : {x : Answer} (o : Option Tables) → mintsIn p ≡ some x → x .passes ≤ 256 → Of x o → Ways p l (passed o l)
+  unfolding passed
+  passed-ways (some t) q h (with-mints m r s) = fitted-ways t q m r (omega arith)
+
+  -- every call ends in one of these ways
+  pub ways : (names : List ℕ) → Ways p l (route names p l)
+  unfolding route judged
+  ways names = go (eqb (length names) 88)
+    where
+      checked : (b : Bool) → eqb (numberOf (verdict p)) 0 ≡ b → Ways p l (cond b (passed (tablesIn names p) l) (refused (numberOf (verdict p)) (placeOf (verdict p)) l))
+      checked true e =
+          let y = answered p (eqb-true (numberOf (verdict p)) 0 e) in
+          passed-ways (tablesIn names p) (y .1) (y .3) (tables-of names p (y .1))
+      checked false e = early (numberOf (verdict p)) (placeOf (verdict p)) (omega (arith, eqb-false (numberOf (verdict p)) 0 e)) (few (verdict p))
+
+      go : (b : Bool) → Ways p l (cond b (judged names p l (verdict p)) (refused 1 0 l))
+      go true = checked (eqb (numberOf (verdict p)) 0) refl
+      go false = early 1 0 (omega arith) (omega arith)

@@ -1,0 +1,14 @@
+use Rattle.route.specs.Route.{refused}
+use mathlib.Core.Path.{refl}
+use Rattle.route.proofs.fit.refusal.Statement.{statement}
+use Rattle.route.proofs.fit.refusal.Tie as tie
+use Rattle.route.proofs.fit.refusal.Reads as reads
+use Rattle.route.proofs.fit.refusal.Lts as lts
+
+-- src/fit.rt:7:1
+returns : tie.Need-returns
+unfolding refused
+returns c = refl
+
+pub refusal-spec : {M : Type 1} → statement M
+refusal-spec = tie.close (tie.spec returns)

@@ -1,0 +1,152 @@
+use Rattle.route.proofs.Legging.{known-mint, leg-swap}
+use Rattle.route.specs.Known.{mintAt, Holds}
+use Rattle.route.specs.Lay.{placed}
+use Rattle.route.specs.Legs.{legRows}
+use Rattle.route.specs.Mints.{programOf}
+use Rattle.swaps.proofs.View.{no-leg, a-leg}
+use Rattle.swaps.specs.declared.Found.the-variants.{Nothing, Leg}
+use Rattle.swaps.specs.Row.{known, poolsOf}
+use Rattle.swaps.specs.Swap.{swap, legOf as legIn}
+use Rattle.swaps.specs.Leg.{legWith}
+use Rattle.swaps.specs.declared.Swap.{Swap}
+use Rattle.evidence.specs.MintTable.{MintRow, mintIn}
+use Rattle.pack.specs.Invocation.{Instruction, instructionAt}
+use Rattle.ids.specs.Keys.{Key, keyOf}
+use mathlib.Core.List.{List}
+use mathlib.Core.Path.{_≡_, sym, _∙_}
+use Prim.Native.Nat.{ℕ, _<_}
+use mathlib.Core.Option.{some}
+use native.Mathlib.Omega.{arith}
+use borrow.Author.Needs.{needs}
+use Rattle.route.proofs.legs.put_one.Statement.{statement}
+use Rattle.route.proofs.legs.put_one.Tie as tie
+use Rattle.route.proofs.legs.put_one.Reads as reads
+use Rattle.route.proofs.legs.put_one.Lts as lts
+use Rattle.ids.proofs.program.Reads as program-reads
+use Rattle.pack.proofs.accounts.Reads as accounts-reads
+use Rattle.pack.proofs.data.Reads as data-reads
+use Rattle.pack.proofs.program.Reads as item-program-reads
+use Rattle.route.proofs.invocations.wide.Reads as wide-reads
+use Rattle.route.proofs.transfers.mint.Reads as mint-reads
+use Rattle.swaps.proofs.leg.Reads as leg-reads
+use Rattle.swaps.proofs.row.put_leg.Reads as put-leg-reads
+
+-- src/legs.rt:29:24
+program-requires : tie.Need-program-requires
+program-requires c κs = search needs
+
+-- src/legs.rt:29:9
+wide-requires : tie.Need-wide-requires
+wide-requires c κs = search needs
+
+-- src/legs.rt:30:9
+program-requires-2 : tie.Need-program-requires-2
+program-requires-2 c κs = search needs
+
+-- src/legs.rt:31:45
+accounts-requires : tie.Need-accounts-requires
+accounts-requires c κs = search needs
+
+-- src/legs.rt:31:71
+data-requires : tie.Need-data-requires
+data-requires c κs = search needs
+
+-- src/legs.rt:31:9
+leg-requires : tie.Need-leg-requires
+leg-requires c κs = search needs
+
+-- src/legs.rt:33:27
+enum-told : tie.Need-enum-told
+enum-told c = search needs
+
+-- src/legs.rt:34:20
+enum-known-found : tie.Need-enum-known-found
+enum-known-found c = search needs
+
+-- src/legs.rt:35:17
+mint-requires : tie.Need-mint-requires
+mint-requires c κs = search needs
+
+-- src/legs.rt:36:17
+mint-requires-2 : tie.Need-mint-requires-2
+mint-requires-2 c κs = c .before .before .before .before .before .before .before .before .before .before .before .before .before .before .before .before .pre .0
+
+-- src/legs.rt:37:38
+mul-put-leg : tie.Need-mul-put-leg
+mul-put-leg c = omega (arith, c .before .before .before .before .before .before .before .before .before .before .before .before .before .before .before .before .before .before .pre .1)
+
+-- src/legs.rt:37:13
+put-leg-requires : tie.Need-put-leg-requires
+put-leg-requires c κs = search needs
+
+-- src/legs.rt:15:1
+returns : tie.Need-returns
+unfolding legRows placed
+returns c =
+    let a = c .before .before .before .before .before .before .before .before .before .before .before .before .before .before .args in
+    let x = instructionAt (a .pack .now) (a .at) in
+    let ks = a .keys .now in
+    let pools = poolsOf (a .pools .now) in
+    let e : legIn (a .names .now) (keyOf ks) (programOf ks x) (x .accounts) (x .bytes) ≡ Nothing =
+    sym (c .before .before .leg .ensures ∙ rw (c .before .before .before .before .accounts .ensures, c .before .before .before .«data» .ensures, c .before .before .before .before .before .program2 .ensures, c .before .before .before .before .before .before .wide .ensures, c .before .before .before .before .before .before .before .program .ensures)) ∙ c .enum-told .given .1 in
+    record {
+      few = omega arith;
+      counted = λ table h. rw (leg-swap (a .names .now) ks pools table x, no-leg (a .names .now) (keyOf ks) (programOf ks x) (x .accounts) (x .bytes) (mintIn table) pools e);
+      rows = λ table h. rw (leg-swap (a .names .now) ks pools table x, no-leg (a .names .now) (keyOf ks) (programOf ks x) (x .accounts) (x .bytes) (mintIn table) pools e);
+    }
+
+-- src/legs.rt:15:1
+same-length : tie.Need-same-length
+same-length c = search needs
+
+-- src/legs.rt:15:1
+-- the leg that is found, with the mints that are handed on, is the instruction's swap
+is-leg : (ms names ks : List ℕ) (pools : List Key) (x : Instruction) (s : Swap)
+    → legIn names (keyOf ks) (programOf ks x) (x .accounts) (x .bytes) ≡ Leg s
+    → (table : List MintRow) → Holds ms ks table → s .input < 256 → s .output < 256
+    → swap names (keyOf ks) (programOf ks x) (x .accounts) (x .bytes) (mintIn table) pools ≡ some (legWith (keyOf ks) (known (mintAt ms (s .input))) (known (mintAt ms (s .output))) pools s)
+is-leg ms names ks pools x s e table h p q =
+    a-leg names (keyOf ks) (programOf ks x) (x .accounts) (x .bytes) (mintIn table) pools s (mintAt ms (s .input)) (mintAt ms (s .output)) e
+    (known-mint (mintAt ms (s .input)) ∙ h (s .input) p)
+    (known-mint (mintAt ms (s .output)) ∙ h (s .output) q)
+
+returns-2 : tie.Need-returns-2
+unfolding legRows placed
+returns-2 c =
+    let a = c .before .before .before .before .before .before .before .before .before .before .before .before .before .before .before .before .before .before .before .before .before .args in
+    let x = instructionAt (a .pack .now) (a .at) in
+    let ks = a .keys .now in
+    let pools = poolsOf (a .pools .now) in
+    let s = c .before .before .before .before .before .before .before .found .given .0 .0 in
+    let e : legIn (a .names .now) (keyOf ks) (programOf ks x) (x .accounts) (x .bytes) ≡ Leg s =
+    sym (c .before .before .before .before .before .before .before .before .before .leg .ensures ∙ rw (c .before .before .before .before .before .before .before .before .before .before .before .accounts .ensures, c .before .before .before .before .before .before .before .before .before .before .«data» .ensures, c .before .before .before .before .before .before .before .before .before .before .before .before .program2 .ensures, c .before .before .before .before .before .before .before .before .before .before .before .before .before .wide .ensures, c .before .before .before .before .before .before .before .before .before .before .before .before .before .before .program .ensures)) ∙ c .before .before .before .before .before .before .before .found .given .1 in
+    let small : s .input < 256 = omega (arith, c .before .before .before .before .before .before .known-told .given) in
+    let small2 : s .output < 256 = omega (arith, c .before .before .before .before .before .before .known-told .given) in
+    record {
+      few = omega arith;
+      counted = λ table h. rw (leg-swap (a .names .now) ks pools table x, is-leg (a .mints .now) (a .names .now) ks pools x s e table h small small2);
+      rows =
+          λ table h.
+          rw
+          (leg-swap (a .names .now) ks pools table x, is-leg (a .mints .now) (a .names .now) ks pools x s e table h small small2, c .before .before .put-leg .ensures, c .before .before .before .before .before .mint .ensures, c .before .before .before .before .mint2 .ensures, c .before .before .before .before .before .before .before .before .before .before .before .before .before .wide .ensures, c .before .before .before .before .before .before .before .before .before .before .before .before .before .before .program .ensures);
+    }
+
+pub put-one-spec : {M : Type 1} → statement M
+put-one-spec =
+    tie.close
+    (tie.spec
+    program-requires
+    wide-requires
+    program-requires-2
+    accounts-requires
+    data-requires
+    leg-requires
+    enum-told
+    enum-known-found
+    mint-requires
+    mint-requires-2
+    mul-put-leg
+    put-leg-requires
+    returns
+    same-length
+    returns-2)

@@ -1,0 +1,115 @@
+use native.Mathlib.Omega.{arith}
+use Rattle.route.proofs.Moving.{count-le, row-counted, row-placed}
+use Rattle.route.specs.Known.{mintAt}
+use Rattle.route.specs.Transfers.{transferOf, transferRows}
+use Rattle.token.specs.Moved.{valueOf, sourceBy}
+use Rattle.token.specs.Rows.{mintOf}
+use Rattle.evidence.specs.MintTable.{mintIn}
+use Rattle.pack.specs.Invocation.{instructionAt}
+use Rattle.ids.specs.Keys.{keyOf}
+use mathlib.Core.Path.{_≡_, _∙_}
+use borrow.Author.Needs.{needs}
+use Rattle.route.proofs.transfers.put_one.Statement.{statement}
+use Rattle.route.proofs.transfers.put_one.Tie as tie
+use Rattle.route.proofs.transfers.put_one.Reads as reads
+use Rattle.route.proofs.transfers.put_one.Lts as lts
+use Rattle.ids.proofs.program.Reads as program-reads
+use Rattle.pack.proofs.accounts.Reads as accounts-reads
+use Rattle.pack.proofs.data.Reads as data-reads
+use Rattle.pack.proofs.program.Reads as item-program-reads
+use Rattle.route.proofs.transfers.count.Reads as count-reads
+use Rattle.route.proofs.transfers.mint.Reads as mint-reads
+use Rattle.token.proofs.source.Reads as source-reads
+use Rattle.token.proofs.row.put_row.Reads as put-row-reads
+use Rattle.token.proofs.transfer.Reads as transfer-reads
+
+-- src/transfers.rt:46:9
+program-requires : tie.Need-program-requires
+program-requires c κs = search needs
+
+-- src/transfers.rt:47:33
+cast-program : tie.Need-cast-program
+cast-program c = search needs
+
+-- src/transfers.rt:47:9
+program-requires-2 : tie.Need-program-requires-2
+program-requires-2 c κs = search needs
+
+-- src/transfers.rt:48:43
+accounts-requires : tie.Need-accounts-requires
+accounts-requires c κs = search needs
+
+-- src/transfers.rt:48:69
+data-requires : tie.Need-data-requires
+data-requires c κs = search needs
+
+-- src/transfers.rt:48:9
+transfer-requires : tie.Need-transfer-requires
+transfer-requires c κs = search needs
+
+-- src/transfers.rt:49:25
+mul-put-row : tie.Need-mul-put-row
+mul-put-row c = search needs
+
+-- src/transfers.rt:49:71
+source-requires : tie.Need-source-requires
+source-requires c κs = search needs
+
+-- src/transfers.rt:49:59
+mint-requires : tie.Need-mint-requires
+mint-requires c κs = search needs
+
+-- src/transfers.rt:49:5
+put-row-requires : tie.Need-put-row-requires
+put-row-requires c κs = search needs
+
+-- src/transfers.rt:50:5
+count-requires : tie.Need-count-requires
+count-requires c κs = search needs
+
+-- src/transfers.rt:42:1
+same-length : tie.Need-same-length
+same-length c = search needs
+
+-- what is moved is the instruction's transfer
+value : (c : tie.After-count) → valueOf (keyOf (c .before .before .before .before .before .before .before .before .before .before .before .before .before .before .before .before .args .keys .now)) (c .before .before .before .before .before .before .before .transfer .result) ≡ transferOf (c .before .before .before .before .before .before .before .before .before .before .before .before .before .before .before .before .args .keys .now) (instructionAt (c .before .before .before .before .before .before .before .before .before .before .before .before .before .before .before .before .args .pack .now) (c .before .before .before .before .before .before .before .before .before .before .before .before .before .before .before .before .args .at))
+unfolding transferOf
+value c = c .before .before .before .before .before .before .before .transfer .ensures .1 ∙ rw (c .before .before .before .before .before .before .before .before .before .accounts .ensures, c .before .before .before .before .before .before .before .before .«data» .ensures, c .before .before .before .before .before .before .before .before .before .before .program2 .ensures, c .before .before .before .before .before .before .before .before .before .before .before .program .ensures)
+
+-- src/transfers.rt:42:1
+returns : tie.Need-returns
+unfolding transferRows
+returns c =
+    let a = c .before .before .before .before .before .before .before .before .before .before .before .before .before .before .before .before .args in
+    let moved = c .before .before .before .before .before .before .before .transfer .result in
+    let program = keyOf (a .keys .now) (instructionAt (a .pack .now) (a .at) .program) in
+    let mint = mintOf (mintAt (a .mints .now) (sourceBy moved)) in
+    record {
+      few = rw (c .count .ensures) (count-le moved);
+      counted =
+          λ table h.
+          c .count .ensures ∙ row-counted (keyOf (a .keys .now)) (mintIn table) (a .i) program mint moved
+          ∙ rw (value c);
+      rows =
+          λ table h.
+          rw (c .before .before .before .put-row .ensures, c .before .before .before .before .mint .ensures, c .before .before .before .before .before .source .ensures, c .before .before .before .before .before .before .before .before .before .before .before .program .ensures)
+          (row-placed (keyOf (a .keys .now)) (mintIn table) (a .i) program mint moved (h (sourceBy moved) (rw (← (c .before .before .before .before .before .source .ensures)) (omega arith))) (a .out .now) (a .k) ∙ rw (value c));
+    }
+
+pub put-one-spec : {M : Type 1} → statement M
+put-one-spec =
+    tie.close
+    (tie.spec
+    program-requires
+    cast-program
+    program-requires-2
+    accounts-requires
+    data-requires
+    transfer-requires
+    mul-put-row
+    source-requires
+    mint-requires
+    put-row-requires
+    count-requires
+    same-length
+    returns)

@@ -1,0 +1,14 @@
+pub mod Lay
+pub mod Mints
+pub mod Known
+pub mod Transfers
+pub mod Legs
+pub mod Actions
+pub mod Program
+pub mod Row
+pub mod Tables
+pub mod Route
+pub mod Fit
+pub mod Arrays
+pub mod Filled
+pub mod Order

@@ -1,0 +1,176 @@
+// Table 1: one row for each invocation.
+use ids::Id;
+ghost use mathlib.Core.Path.{_≡_};
+ghost use Prim.Native.Nat.{ℕ, _<_, _≤_};
+ghost use lib.ListN.{getD};
+ghost use lib.Seq.{sets};
+ghost use Rattle.pack.specs.Invocation.{lowered, positionAt};
+ghost use Rattle.route.specs.Arrays.{ownFor, ownAt, ownBits, bitsAt, rowAt};
+ghost use Rattle.subtrees.specs.Subtrees.{tab};
+ghost use Rattle.route.specs.Lay.{placed};
+ghost use Rattle.route.specs.Program.{programBits};
+ghost use Rattle.route.specs.Row.{flagged as flaggedOf, invocationRow};
+
+// The bits that a program's case gives: 4 where a route passes over it, 8 where it is resolved.
+fn program_bits(id: Id) -> u8
+    ensures { λ r. ⌜ r ≡ programBits id ⌝ }
+{
+    match id {
+        Id::SplToken => 12,
+        Id::Token2022 => 12,
+        Id::WrappedSol => 8,
+        Id::ComputeBudget => 12,
+        Id::AssociatedToken => 12,
+        Id::Memo => 12,
+        Id::PumpFun => 8,
+        Id::LaunchLab => 8,
+        Id::PumpSwap => 8,
+        Id::Clmm => 8,
+        Id::Cpmm => 8,
+        Id::AmmV4 => 8,
+        Id::Orca => 8,
+        Id::Dlmm => 8,
+        Id::System => 12,
+        Id::Other => 8,
+        Id::Unresolved => 0,
+    }
+}
+
+// A flag and a number that comes one higher, 0 for none.
+fn put_flagged(out: &mut [u8], at: usize, raised: u64)
+    requires { ⌜ at < 65536 ⌝ }
+    ensures { λ _. ⌜ now (out .exit) ≡ sets (now (out .entry)) at (flaggedOf (lowered raised)) ⌝ }
+{
+    if raised == 0 {
+        wire::put_byte(out, at, 0);
+        wire::put_u32(out, at + 1, 0);
+        return;
+    }
+    wire::put_byte(out, at, 1);
+    wire::put_u32(out, at + 1, ((raised - 1) % 4294967296) as u32);
+}
+
+// The row of an invocation, by the numbers that its arrays hold.
+fn put_row(
+    out: &mut [u8],
+    at: usize,
+    outer: u32,
+    inner: u32,
+    height: u64,
+    end: u32,
+    bits: u8,
+    leg: u32,
+)
+    requires { ⌜ at < 60000 ⌝ }
+    ensures { λ _. ⌜ now (out .exit) ≡ sets (now (out .entry)) at (invocationRow (record { outer = outer; inner = lowered inner; height = lowered height }) end bits leg) ⌝ }
+{
+    wire::put_u32(out, at, outer);
+    put_flagged(out, at + 4, inner as u64);
+    put_flagged(out, at + 9, height);
+    wire::put_u32(out, at + 14, end);
+    wire::put_byte(out, at + 18, bits);
+    wire::put_u32(out, at + 19, leg);
+}
+
+// The bits of what an invocation has itself.
+fn own_bits(moved: u8, leg: u32) -> u8
+    ensures { λ r. ⌜ r ≡ ownBits moved leg ⌝ }
+{
+    if leg == 0 {
+        if moved == 0 {
+            return 0;
+        }
+        return 32;
+    }
+    if moved == 0 {
+        return 16;
+    }
+    48
+}
+
+// What an invocation has itself, for those around it: 1 a transfer, 2 a leg.
+fn own_for(moved: u8, leg: u32) -> u8
+    ensures { λ r. ⌜ r ≡ ownFor moved leg ⌝ }
+{
+    if moved == 0 {
+        if leg == 0 {
+            return 0;
+        }
+        return 2;
+    }
+    if leg == 0 {
+        return 1;
+    }
+    3
+}
+
+// The same for n invocations.
+pub(crate) fn put_own(n: usize, moved: &[u8; 1024], leg: &[u32; 1024], own: &mut [u8; 1024])
+    requires { ⌜ n ≤ 1024 ⌝ }
+    ensures { λ _. ⌜ now (own .exit) ≡ sets (now (own .entry)) 0 (tab (ownAt (now (moved .entry)) (now (leg .entry))) 0 n) ⌝ }
+{
+    let mut i = 0;
+    while i < n {
+        own[i] = own_for(moved[i], leg[i]);
+        i += 1;
+    }
+}
+
+// An offset that an array holds: a number handed to a function is known to be below 2^32, an element is not.
+pub(crate) fn wide(x: u32) -> usize
+    ensures { λ r. ⌜ r ≡ x ⌝ }
+{
+    x as usize
+}
+
+// All bits of invocation i.
+fn bits(
+    keys: &[u8],
+    pack: &[u8],
+    at: &[u32; 1024],
+    inside: &[u8; 1024],
+    moved: &[u8; 1024],
+    leg: &[u32; 1024],
+    i: usize,
+) -> u8
+    requires { ⌜ (i < 1024) × (getD (now inside) i 0 ≤ 3) ⌝ }
+    ensures { λ r. ⌜ r ≡ bitsAt (now (keys .entry)) (now (pack .entry)) (now (at .entry)) (now (inside .entry)) (now (moved .entry)) (now (leg .entry)) i ⌝ }
+{
+    let program = pack::program(pack, wide(at[i]));
+    inside[i] + program_bits(ids::program(keys, program as usize)) + own_bits(moved[i], leg[i])
+}
+
+// The rows of the n invocations.
+pub(crate) fn put_rows(
+    keys: &[u8],
+    pack: &[u8],
+    n: usize,
+    at: &[u32; 1024],
+    outer: &[u32; 1024],
+    inner: &[u32; 1024],
+    height: &[u64; 1024],
+    ends: &[u32; 1024],
+    inside: &[u8; 1024],
+    moved: &[u8; 1024],
+    leg: &[u32; 1024],
+    out: &mut [u8],
+)
+    requires { ⌜ (n ≤ 1024) × ((i : ℕ) → getD (now inside) i 0 ≤ 3) ⌝ }
+    ensures { λ _. ⌜ now (out .exit) ≡ placed 23 0 (tab (rowAt (now (keys .entry)) (now (pack .entry)) (now (at .entry)) (now (outer .entry)) (now (inner .entry)) (now (height .entry)) (now (ends .entry)) (now (inside .entry)) (now (moved .entry)) (now (leg .entry))) 0 n) (now (out .entry)) ⌝ }
+{
+    let mut i = 0;
+    while i < n {
+        let b = bits(keys, pack, at, inside, moved, leg, i);
+        put_row(
+            out,
+            i * 23,
+            outer[i],
+            inner[i],
+            height[i],
+            ends[i],
+            b,
+            leg[i],
+        );
+        i += 1;
+    }
+}

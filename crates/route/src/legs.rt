@@ -1,0 +1,95 @@
+// Table 3: a row for each invocation that is a swap's leg.
+use crate::invocations::wide;
+use crate::transfers::mint;
+use swaps::Found;
+ghost use mathlib.Core.Path.{_≡_};
+ghost use Prim.Native.Nat.{suc, _*_, _<_, _≤_};
+ghost use lib.ListN.{length};
+ghost use Rattle.pack.specs.Invocation.{instructionAt};
+ghost use Rattle.swaps.specs.Row.{poolsOf};
+ghost use Rattle.route.specs.Arrays.{itemAt};
+ghost use Rattle.route.specs.Known.{Puts, Fills, Numbers};
+ghost use Rattle.route.specs.Legs.{legRows};
+
+// Writes row k for the instruction at an offset, if it is a leg. Answers how many rows that is.
+fn put_one<'a>(
+    names: &[u8],
+    keys: &'a [u8],
+    pack: &[u8],
+    pools: &[u8],
+    at: usize,
+    i: u32,
+    mints: &'a [u8],
+    out: &mut [u8],
+    k: usize,
+) -> u8
+    requires { ⌜ (length (now mints) ≡ 8192) × (k < 1024) ⌝ }
+    ensures { λ r. ⌜ Puts (now (mints .entry)) (now (keys .entry)) (λ table. legRows (now (names .entry)) (now (keys .entry)) (poolsOf (now (pools .entry))) table i (instructionAt (now (pack .entry)) at)) 250 k r (now (out .entry)) (now (out .exit)) ⌝ }
+{
+    let program = wide(pack::program(pack, at));
+    let id = ids::program(keys, program);
+    let found = swaps::leg(
+        names,
+        keys,
+        id,
+        pack::accounts(pack, at),
+        pack::data(pack, at),
+    );
+    match found {
+        Found::Nothing => 0,
+        Found::Leg(leg) => {
+            let spent = mint(mints, leg.input);
+            let bought = mint(mints, leg.output);
+            swaps::row::put_leg(out, k * 250, i, program, keys, leg, spent, bought, pools);
+            1
+        }
+    }
+}
+
+// The number of a leg in row k, where there are r of them: 1 plus its row, or 0.
+fn number(r: u8, k: usize) -> u32
+    requires { ⌜ (r ≤ 1) × (k < 1024) ⌝ }
+    ensures { λ n. ⌜ n ≡ r * suc k ⌝ }
+{
+    if r == 0 {
+        return 0;
+    }
+    k as u32 + 1
+}
+
+// The rows of the n invocations; `leg` holds the number of each one's leg. Answers how many there are.
+pub(crate) fn put_rows<'a>(
+    names: &[u8],
+    keys: &'a [u8],
+    pack: &[u8],
+    pools: &[u8],
+    n: usize,
+    at: &[u32; 1024],
+    mints: &'a [u8],
+    out: &mut [u8],
+    leg: &mut [u32; 1024],
+) -> usize
+    requires { ⌜ (n ≤ 1024) × (length (now mints) ≡ 8192) ⌝ }
+    ensures { λ c. ⌜ Fills (now (mints .entry)) (now (keys .entry)) (legRows (now (names .entry)) (now (keys .entry)) (poolsOf (now (pools .entry)))) (itemAt (now (pack .entry)) (now (at .entry))) 250 n c (now (out .entry)) (now (out .exit)) ⌝ }
+    ensures { λ _. ⌜ Numbers (now (mints .entry)) (now (keys .entry)) (legRows (now (names .entry)) (now (keys .entry)) (poolsOf (now (pools .entry)))) (itemAt (now (pack .entry)) (now (at .entry))) n (now (leg .entry)) (now (leg .exit)) ⌝ }
+{
+    let mut k = 0;
+    let mut i = 0;
+    while i < n {
+        let r = put_one(
+            names,
+            keys,
+            pack,
+            pools,
+            wide(at[i]),
+            i as u32,
+            mints,
+            out,
+            k,
+        );
+        leg[i] = number(r, k);
+        k += wide(r as u32);
+        i += 1;
+    }
+    k
+}
