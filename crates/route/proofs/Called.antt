@@ -56,7 +56,7 @@ fitted-blank t l n =
     refl
     n
 
-passed-blank : (o : Option Tables) (l : Lent) → passed o l .answer .number ≢ 0 → Blank l (passed o l)
+pub passed-blank : (o : Option Tables) (l : Lent) → passed o l .answer .number ≢ 0 → Blank l (passed o l)
 unfolding passed
 passed-blank none l n = refused-blank 7 0 l
 passed-blank (some t) l n = fitted-blank t l n

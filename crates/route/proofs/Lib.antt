@@ -16,3 +16,4 @@ pub mod Inferring
 pub mod Filling
 pub mod Success
 pub mod Called
+pub mod Claims
