@@ -1,7 +1,5 @@
 // The library for programs in other languages: a thin skin over `route`.
 use route::Answer;
-ghost use mathlib.Core.Path.{_≡_};
-ghost use lib.ListN.{length};
 ghost use Rattle.route.specs.Route.{Leaves};
 
 // Each slice crosses as a pointer and a length; the answer is nine numbers of 32 bits.
