@@ -45,6 +45,8 @@ const SWAP_ACCOUNTS: u8 = 31;
 pub enum Share {
     /// Token and System instructions under a program, over accounts with mints.
     Recorded(u8, Damage),
+    /// The same over accounts with other mints, source and destination not having the same.
+    OtherMints(u8),
     /// The same over accounts that only the instruction itself tells something about.
     Fresh(u8),
     /// Of those only tags that are evidence, with an account missing.
@@ -74,6 +76,7 @@ pub fn shares() -> Vec<Share> {
     for damage in [Damage::OutOfRange, Damage::Zero, Damage::None] {
         shares.extend(programs.map(|program| Share::Recorded(program, damage)));
     }
+    shares.extend(programs.map(Share::OtherMints));
     shares.extend(programs.map(Share::Fresh));
     for damage in [Damage::OutOfRange, Damage::Zero] {
         shares.extend(programs.map(|program| Share::FreshDamaged(program, damage)));
@@ -88,7 +91,9 @@ impl Share {
     pub fn cases(self) -> Vec<Case> {
         match self {
             Share::Recorded(program, damage) => recorded(program, damage),
-            Share::Fresh(program) => fresh(program, Damage::None, &Vec::from_iter(0..=255)),
+            Share::OtherMints(program) => other_mints(program),
+            Share::Fresh(program) if is_token(program) => fresh(program, Damage::None, &all_tags()),
+            Share::Fresh(program) => fresh(program, Damage::None, &EVIDENCE),
             Share::FreshDamaged(program, damage) => fresh(program, damage, &EVIDENCE),
             Share::Legs(way) => legs(way),
             Share::Slices => slices(),
@@ -184,21 +189,46 @@ fn pattern(place: usize) -> u8 {
 /// Tokens and natives: all tags over the wrapped SOL accounts first and third, whose second is wrapped
 /// SOL itself, so that no instruction makes another account ambiguous.
 fn recorded(program: u8, damage: Damage) -> Vec<Case> {
-    let names = real();
     let wrapped_sol = original::ids()[WRAPPED_SOL];
     let accounts = [ACCOUNTS, WRAPPED_SOL as u8, ACCOUNTS + 1, ACCOUNTS + 2, ACCOUNTS + 3];
     let mints = [wrapped_sol, wrapped_sol, wrapped_sol, [7; 32], [8; 32]];
+    all_tags_over(accounts, mints, program, damage)
+}
+
+/// The second account is the mint of the first and third, and has another mint itself.
+fn other_mints(program: u8) -> Vec<Case> {
+    let wrapped_sol = original::ids()[WRAPPED_SOL];
+    let accounts = [ACCOUNTS, ACCOUNTS + 1, ACCOUNTS + 2, ACCOUNTS + 3, WRAPPED_SOL as u8];
+    let mints = [account_key(1), [8; 32], account_key(1), wrapped_sol, wrapped_sol];
+    all_tags_over(accounts, mints, program, Damage::None)
+}
+
+fn all_tags_over(
+    accounts: [u8; MOST_ACCOUNTS],
+    mints: [Key; MOST_ACCOUNTS],
+    program: u8,
+    damage: Damage,
+) -> Vec<Case> {
+    let names = real();
     let balance = |(account, mint)| Balance { account: u32::from(account), mint };
     let balances = accounts.into_iter().zip(mints).map(balance).collect();
     let pack = Pack { keys: keys(&names, 4), balances, ..Pack::default() };
     let past = pack.keys.len() as u8;
     let mut packer = Packer::new(names, pack, MAX_INVOCATIONS);
-    for data in all_data(program, &Vec::from_iter(0..=255)) {
+    for data in all_data(program, &all_tags()) {
         for accounts in damaged(accounts, damage, past) {
             packer.push(Instruction { program: program.into(), accounts, data: data.clone() });
         }
     }
     packer.end()
+}
+
+fn all_tags() -> Vec<u8> {
+    (0..=255).collect()
+}
+
+fn is_token(program: u8) -> bool {
+    [SPL_TOKEN, TOKEN_2022].contains(&usize::from(program))
 }
 
 /// Tokens as evidence: first and third account come in one instruction only, the second has a mint.
@@ -253,7 +283,7 @@ fn all_data(program: u8, tags: &[u8]) -> Vec<Vec<u8>> {
 
 /// Ways to begin with a tag: one byte under the token programs and a second one for fees, else four.
 fn starts(program: u8, tag: u8) -> Vec<[u8; 4]> {
-    let token = [SPL_TOKEN, TOKEN_2022].contains(&usize::from(program));
+    let token = is_token(program);
     match tag {
         26 if token => vec![[tag, 1, 9, 9], [tag, 0, 9, 9], [tag, 2, 9, 9]],
         _ if token => vec![[tag, 1, 9, 9]],
@@ -304,7 +334,7 @@ fn swap_pack(names: &Names) -> Pack {
 }
 
 /// Ways to choose the accounts of a swap.
-const LAYOUTS: usize = 9;
+const LAYOUTS: usize = 10;
 
 fn layout(way: usize, count: usize) -> Vec<u8> {
     let known = |place: usize| ACCOUNTS + (place % usize::from(SWAP_ACCOUNTS)) as u8;
@@ -316,7 +346,7 @@ fn layout(way: usize, count: usize) -> Vec<u8> {
         (3, 3) => OTHER_CONFIG,
         (3, _) => known(place),
         (4, 5) => new(6),
-        (4, 9) => new(7),
+        (9, 9) => new(7),
         (5, 3) => new(5),
         (6, _) => ZERO,
         (7, _) => 255,
