@@ -5,6 +5,7 @@ pub mod calls;
 pub mod checks;
 pub mod chosen;
 pub mod generate;
+pub mod grids;
 pub mod library;
 pub mod listing;
 pub mod oracle;

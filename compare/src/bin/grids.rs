@@ -1,0 +1,119 @@
+//! Compares the library with the oracle over the grids. Of packs that differ, the shortest instruction
+//! that differs alone is told. The last line says how many packs passed and failed.
+
+use compare::generate::Case;
+use compare::grids::{alone, shares, Share};
+use compare::library::{Library, Verdict};
+use compare::oracle::reply;
+use std::path::Path;
+use std::process::ExitCode;
+use std::sync::atomic::{AtomicUsize, Ordering};
+use std::thread;
+
+const REPLAY: &str = concat!(env!("CARGO_MANIFEST_DIR"), "/../target/bin/replay");
+
+fn main() -> ExitCode {
+    if cfg!(not(feature = "link")) && !Path::new(REPLAY).exists() {
+        println!("{REPLAY} is missing: nothing was compared");
+        println!("0 passed, 1 failed");
+        return ExitCode::FAILURE;
+    }
+    let found = compare_all(&shares());
+    println!(
+        "{} instructions, {} rows",
+        found.rows[1],
+        found.rows.map(|n| n.to_string()).join(" ")
+    );
+    println!("{} passed, {} failed", found.passed, found.failed);
+    if found.failed == 0 {
+        ExitCode::SUCCESS
+    } else {
+        ExitCode::FAILURE
+    }
+}
+
+/// Packs, and the rows of the five tables that the oracle answered.
+#[derive(Default)]
+struct Found {
+    passed: usize,
+    failed: usize,
+    rows: [usize; 5],
+}
+
+/// As many threads as processors, each with a share at a time.
+fn compare_all(shares: &[Share]) -> Found {
+    let next = AtomicUsize::new(0);
+    let work = || {
+        let mut found = Found::default();
+        while let Some(share) = shares.get(next.fetch_add(1, Ordering::Relaxed)) {
+            if let Err(error) = found.compare(*share) {
+                println!("{share:?}: {error}");
+                found.failed += 1;
+            }
+        }
+        found
+    };
+    thread::scope(|scope| {
+        let threads = thread::available_parallelism().map_or(1, usize::from);
+        let running: Vec<_> = (0..threads).map(|_| scope.spawn(work)).collect();
+        let ended = running.into_iter().map(|thread| thread.join().expect("no thread panics"));
+        ended.fold(Found::default(), Found::with)
+    })
+}
+
+impl Found {
+    fn compare(&mut self, share: Share) -> Result<(), String> {
+        let cases = share.cases();
+        let verdict = call(&cases, &mut self.rows)?;
+        for (number, what) in &verdict.told {
+            println!("{share:?}, pack {number}: {what}");
+        }
+        if let Some((number, _)) = verdict.told.first() {
+            tell_shortest(cases.get(*number).ok_or("replay told of a call that was not made")?)?;
+        }
+        self.failed += verdict.different;
+        self.passed += verdict.answers.saturating_sub(verdict.different);
+        Ok(())
+    }
+
+    fn with(mut self, other: Found) -> Found {
+        self.passed += other.passed;
+        self.failed += other.failed;
+        self.rows = std::array::from_fn(|t| self.rows[t] + other.rows[t]);
+        self
+    }
+}
+
+/// Calls the library with every case and the oracle's answer to it. All cases are packs that succeed.
+fn call(cases: &[Case], rows: &mut [usize; 5]) -> Result<Verdict, String> {
+    let mut library = Library::start()?;
+    for case in cases {
+        let reply = reply(&case.names, &case.pack, &case.lengths);
+        if reply.answer.number != 0 {
+            return Err(format!("the oracle refuses a pack: {:?}", reply.answer));
+        }
+        *rows = std::array::from_fn(|t| rows[t] + reply.answer.counts[t] as usize);
+        library.call(case, &reply)?;
+    }
+    let verdict = library.end()?;
+    if verdict.answers == cases.len() {
+        Ok(verdict)
+    } else {
+        Err(format!("{} calls were made and {} answered", cases.len(), verdict.answers))
+    }
+}
+
+/// Prints the shortest instruction of a pack that differs alone.
+fn tell_shortest(case: &Case) -> Result<(), String> {
+    let cases = alone(case);
+    let verdict = call(&cases, &mut [0; 5])?;
+    match verdict.told.first() {
+        Some((number, what)) => {
+            let pack = mbelaguy::pack::read(&cases[*number].pack);
+            let outer = pack.map(|pack| pack.outer).map_err(|refusal| format!("{refusal:?}"))?;
+            println!("alone, {what}: {outer:?}");
+        }
+        None => println!("no instruction of the pack differs alone"),
+    }
+    Ok(())
+}
