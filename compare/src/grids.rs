@@ -350,7 +350,7 @@ fn layout(way: usize, count: usize) -> Vec<u8> {
         (5, 3) => new(5),
         (6, _) => ZERO,
         (7, _) => 255,
-        (8, _) if place % 2 == 0 => known(place),
+        (8, _) if place.is_multiple_of(2) => known(place),
         _ => new(place),
     };
     (0..count).map(account).collect()
