@@ -37,6 +37,18 @@ pub fn facts(
     }
 }
 
+/// Runs the original's functions in its own order and drops their answers: the work that is timed.
+pub fn work(transaction: &Transaction, meta: &TransactionStatusMeta, graduated: &[Pubkey]) {
+    let keys = transaction_keys(transaction, meta);
+    let invocations = transaction_invocations(transaction, meta, &keys);
+    let mints = token_mints_from_invocations(meta, &keys, &invocations);
+    let mut legs = Vec::new();
+    let analysis = invocation_analysis(&invocations, &keys, &mints, graduated, &mut legs);
+    let natives: Vec<_> =
+        invocations.iter().filter_map(|ix| native_action(ix, &keys, &mints)).collect();
+    std::hint::black_box((invocations.len(), mints, legs, analysis, natives));
+}
+
 /// The ids that this file keeps to itself.
 pub fn route_ids() -> [Pubkey; 6] {
     [

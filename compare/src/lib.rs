@@ -10,4 +10,5 @@ pub mod library;
 pub mod listing;
 pub mod oracle;
 pub mod sample;
+pub mod speed;
 pub mod stored;

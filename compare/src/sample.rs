@@ -13,7 +13,7 @@ pub const NAME: &str = "aggregator_swap";
 /// The sample's files by their endings: names and pack, what `routes` prints, what `show` prints, and
 /// the page that it writes.
 pub fn files() -> Result<[(&'static str, Vec<u8>); 4], String> {
-    let pack = sample().write().map_err(|error| error.to_string())?;
+    let pack = trades(1).write().map_err(|error| error.to_string())?;
     let names = Names::ORIGINAL.bytes();
     let input = [&names[..], &pack].concat();
     let lengths = std::array::from_fn(|t| MOST_ROWS[t] * WIDTHS[t]);
@@ -33,10 +33,11 @@ const AGGREGATOR: &str = "JUP6LkbZbjS1jKKwapdHNy74zcZ3tLUZoi5QNyVTaV4";
 const ROUTE: [u8; 8] = [0xe5, 0x17, 0xcb, 0x97, 0x7a, 0xe3, 0xad, 0x2a];
 const EVENT: [u8; 8] = [0xe4, 0x45, 0xa5, 0x2e, 0x51, 0xcb, 0x9a, 0x1d];
 
-fn sample() -> Pack {
+/// The sample's transaction, with so many of its trades one after the other.
+pub fn trades(count: usize) -> Pack {
     // The payer comes first.
     let mut keys = KeyTable(vec![key("trader")]);
-    let outer = vec![
+    let before = [
         keys.instruction("Compute Budget", &[], &[&[2], &400_000u32.to_le_bytes()]),
         keys.instruction(
             "Associated Token",
@@ -49,7 +50,9 @@ fn sample() -> Pack {
             &[&[2, 0, 0, 0], &500_000_000u64.to_le_bytes()],
         ),
         keys.instruction("SPL Token", &["trader's wrapped SOL"], &[&[17]]),
-        keys.aggregator(),
+    ];
+    let trade = keys.aggregator();
+    let after = [
         keys.instruction(
             "Token-2022",
             &["trader's bought coins", "savings", "trader"],
@@ -58,10 +61,11 @@ fn sample() -> Pack {
         keys.instruction("SPL Token", &["trader's wrapped SOL", "trader", "trader"], &[&[9]]),
         keys.instruction("Memo", &["trader"], &[b"sold and bought"]),
     ];
-    let groups = vec![
-        Group { outer: 1, instructions: keys.creation() },
-        Group { outer: 4, instructions: keys.swaps() },
-    ];
+    let mut groups = vec![Group { outer: 1, instructions: keys.creation() }];
+    let swaps = keys.swaps();
+    groups.extend(
+        (0..count).map(|k| Group { outer: (before.len() + k) as u32, instructions: swaps.clone() }),
+    );
     // Before and after, for the accounts that the node reported; the wrapped SOL account exists only
     // in between, and of the savings account it told nothing.
     let balances = [
@@ -76,7 +80,7 @@ fn sample() -> Pack {
     let balances = balances.map(|(account, mint)| keys.balance(account, mint));
     Pack {
         balances: [balances, balances].concat(),
-        outer,
+        outer: [&before[..], &vec![trade; count], &after].concat(),
         groups,
         pools: vec![key("first pool")],
         keys: keys.0.into_iter().map(|key| KeyRow { whole: true, key }).collect(),

@@ -17,7 +17,7 @@ pub use stand_ins::{
     convert_rpc_to_grpc, logs, prelude, pubkey, signature,
     EncodedConfirmedTransactionWithStatusMeta, ParseError,
 };
-pub use transaction_route::facts;
+pub use transaction_route::{facts, work};
 
 include!(concat!(env!("OUT_DIR"), "/assembled.rs"));
 

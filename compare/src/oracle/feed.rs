@@ -11,10 +11,18 @@ use original::Facts;
 /// A copy of the original: what it says about a transaction.
 pub type FactsOf<'a> = dyn Fn(&Transaction, &TransactionStatusMeta, &[Pubkey]) -> Facts + 'a;
 
-/// What a copy of the original says about a pack. Which keys were static and which loaded, and which
-/// balances are older, a pack does not tell and no answer depends on: each list is cut by its length,
-/// so that the original meets all of its lists.
+/// A pack as the original reads it: the transaction, its meta and the graduated pools.
+pub type Fed = (Transaction, TransactionStatusMeta, Vec<Pubkey>);
+
+/// What a copy of the original says about a pack.
 pub fn facts_of(pack: &Pack, facts: &FactsOf<'_>) -> Facts {
+    let (transaction, meta, graduated) = fed(pack);
+    facts(&transaction, &meta, &graduated)
+}
+
+/// Which keys were static and which loaded, and which balances are older, a pack does not tell and no
+/// answer depends on: each list is cut by its length, so that the original meets all of its lists.
+pub fn fed(pack: &Pack) -> Fed {
     let (fixed, loaded) = pack.keys.split_at(pack.keys.len() / 2);
     let (writable, readonly) = loaded.split_at(loaded.len() / 2);
     let (pre, post) = pack.balances.split_at(pack.balances.len() / 2);
@@ -31,8 +39,8 @@ pub fn facts_of(pack: &Pack, facts: &FactsOf<'_>) -> Facts {
         loaded_writable_addresses: writable.iter().map(source).collect(),
         loaded_readonly_addresses: readonly.iter().map(source).collect(),
     };
-    let graduated: Vec<_> = pack.pools.iter().copied().map(Pubkey).collect();
-    facts(&transaction, &meta, &graduated)
+    let graduated = pack.pools.iter().copied().map(Pubkey).collect();
+    (transaction, meta, graduated)
 }
 
 /// A source that gives this key: 32 bytes, or one byte more where the flag says that it had not 32.

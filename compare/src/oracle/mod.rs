@@ -5,7 +5,7 @@
 //! definition: `mints` and `blocks` work it out from what was recorded and from the ends of blocks.
 
 pub mod blocks;
-mod feed;
+pub mod feed;
 pub mod mints;
 mod rows;
 

@@ -1,0 +1,132 @@
+//! The packs that are timed: typical ones, and one at each limit that costs time.
+
+use crate::sample;
+use mbelaguy::pack::{Balance, Group, Inner, Instruction, Key, KeyRow, Pack, MAX_BYTES};
+use mbelaguy::{Names, MAX_INVOCATIONS, MAX_KEYS};
+use original::ids::{AMM_V4, CPMM, SPL_TOKEN, WRAPPED_SOL};
+
+/// A pack that is timed, and what it is called.
+pub struct Timed {
+    pub name: String,
+    pub pack: Pack,
+}
+
+/// Typical packs first, then the limits.
+pub fn packs() -> Vec<Timed> {
+    let typical = [1, 2, 4].map(|trades| {
+        let pack = sample::trades(trades);
+        Timed { name: format!("typical-{}", pack.steps().len()), pack }
+    });
+    let limits = [
+        ("passes", passes()),
+        ("groups", groups()),
+        ("deep", one_outer(|k| k as u32 + 2)),
+        ("flat", one_outer(|_| 2)),
+        ("transfers", full_table(&[0, 1, 0], SPL_TOKEN, &[3; 9])),
+        ("legs", full_table(&[0; 8], AMM_V4, &[16; 17])),
+        ("natives", full_table(&[0], SPL_TOKEN, &[17])),
+        ("pools", pools()),
+        ("balances", balances()),
+        ("largest", largest()),
+    ];
+    let limits = limits.map(|(name, pack)| Timed { name: name.to_string(), pack });
+    typical.into_iter().chain(limits).collect()
+}
+
+/// The most work for the passes: 255 accounts and four transfers for each two neighbours, which hand
+/// one mint along the line against its order.
+fn passes() -> Pack {
+    let mut keys: Vec<KeyRow> = (1..MAX_KEYS).map(|k| row(look_alike(k))).collect();
+    keys.push(row(original::ids()[SPL_TOKEN]));
+    let transfer = |k: usize| Instruction {
+        program: MAX_KEYS as u32 - 1,
+        accounts: vec![k as u8 - 1, k as u8, 0],
+        data: vec![3; 9],
+    };
+    let outer = (1..MAX_KEYS - 1).rev().flat_map(|k| vec![transfer(k); 4]).collect();
+    Pack { keys, balances: vec![Balance { account: 0, mint: [9; 32] }], outer, ..Pack::default() }
+}
+
+/// As many outers as can be, and as many groups without instructions as fit, from the last outer on.
+fn groups() -> Pack {
+    let outer = vec![Instruction::default(); MAX_INVOCATIONS];
+    let empty = |k: usize| Group {
+        outer: (MAX_INVOCATIONS - 1 - k % MAX_INVOCATIONS) as u32,
+        instructions: Vec::new(),
+    };
+    filled(Pack { outer, ..Pack::default() }, 6, |pack, k| pack.groups.push(empty(k)))
+}
+
+/// One outer and as many inners as can be, by their heights.
+fn one_outer(height: impl Fn(usize) -> u32) -> Pack {
+    let inners = (0..MAX_INVOCATIONS - 1)
+        .map(|k| Inner { height: Some(height(k)), instruction: Instruction::default() });
+    Pack {
+        outer: vec![Instruction::default()],
+        groups: vec![Group { outer: 0, instructions: inners.collect() }],
+        ..Pack::default()
+    }
+}
+
+/// As many invocations as can be, each with a row in the same table.
+fn full_table(accounts: &[u8], program: usize, data: &[u8]) -> Pack {
+    let ids = original::ids();
+    let keys = [look_alike(1), look_alike(2), ids[program]];
+    let instruction = Instruction { program: 2, accounts: accounts.to_vec(), data: data.to_vec() };
+    Pack {
+        keys: keys.map(row).to_vec(),
+        balances: vec![Balance { account: 0, mint: ids[WRAPPED_SOL] }],
+        outer: vec![instruction; MAX_INVOCATIONS],
+        ..Pack::default()
+    }
+}
+
+/// As many comparisons with graduated pools as can be: half the bytes are legs of a pool that is none
+/// of them, half are pools that differ from it in the last byte only.
+fn pools() -> Pack {
+    let keys = vec![row([7; 32]), row(original::ids()[CPMM])];
+    let leg = Instruction {
+        program: 1,
+        accounts: vec![0; 13],
+        data: [&Names::ORIGINAL.swap_base_in[..], &[1; 16]].concat(),
+    };
+    let half = MAX_BYTES / 2;
+    let outer = vec![leg; half / 45];
+    filled(Pack { keys, outer, ..Pack::default() }, 32, |pack, k| {
+        pack.pools.push(look_alike(k % 256))
+    })
+}
+
+/// As many keys as can be, and as many balances as fit.
+fn balances() -> Pack {
+    let keys = (0..MAX_KEYS).map(|k| row(look_alike(k))).collect();
+    filled(Pack { keys, ..Pack::default() }, 36, |pack, k| {
+        pack.balances.push(Balance { account: (k % MAX_KEYS) as u32, mint: [9; 32] });
+    })
+}
+
+/// As many keys and invocations as can be, each with data as long as fits.
+fn largest() -> Pack {
+    let keys = (0..MAX_KEYS).map(|k| row(look_alike(k))).collect();
+    let pack =
+        Pack { keys, outer: vec![Instruction::default(); MAX_INVOCATIONS], ..Pack::default() };
+    filled(pack, 1, |pack, k| pack.outer[k % MAX_INVOCATIONS].data.push(k as u8))
+}
+
+/// Adds things of so many bytes to a pack, by number, as many as fit.
+fn filled(mut pack: Pack, bytes: usize, add: impl Fn(&mut Pack, usize)) -> Pack {
+    let used = pack.write().expect("what is added to fits").len();
+    (0..(MAX_BYTES - used) / bytes).for_each(|k| add(&mut pack, k));
+    pack
+}
+
+fn row(key: Key) -> KeyRow {
+    KeyRow { whole: true, key }
+}
+
+/// Keys that only their last byte tells apart.
+fn look_alike(k: usize) -> Key {
+    let mut key = [7; 32];
+    key[31] = k as u8;
+    key
+}
