@@ -1,4 +1,4 @@
--- What the public call promises, in the words of the demands: one result, refusals that leave nothing, and no refusal 7.
+-- What the public call promises, in the words of the demands: one result, and refusals that leave nothing and count nothing.
 -- Assumes nothing.
 use mathlib.Core.Path.{_≡_, refl, sym, _∙_}
 use mathlib.Core.Logic.{_≢_}

@@ -19,7 +19,7 @@ use Rattle.route.specs.Tables.{invocationAt}
 use Rattle.route.specs.Route.{Lent, lent, Routed, passed, tablesIn}
 use Rattle.route.specs.Fit.{fits}
 
--- n invocations by their arrays, with the rows of table 0 behind an array ms of final mints: the answer for m rows of table 0 after p passes, and tables 1 to 4
+-- n invocations by their arrays, with the rows of table 0 behind an array ms of final mints: the answer for m rows of table 0 and that many passes, and tables 1 to 4
 pub record Finished (names p ms at outer inner height : List ℕ) (n room m passes : ℕ) (l : Lent) (table : List MintRow) (r : Answer) (t1 t2 t3 t4 o1 o2 o3 o4 : List ℕ) : Type 0 where
   pub answer :
       r ≡ fits l room (record {
