@@ -1,9 +1,8 @@
--- Small packs and what the definitions say of them: each refusal, and the marked case of groups out of order.
+-- Small packs, and which refusal the definitions give each of them.
 -- Assumes nothing.
 use mathlib.Core.Path.{_≡_, refl}
 use mathlib.Core.Bool.{Bool, true, _&&_}
-use mathlib.Core.List.{List, [], _∷_, _++_, map}
-use mathlib.Core.Option.{some}
+use mathlib.Core.List.{List, [], _∷_, _++_}
 use Prim.Native.Nat.{ℕ, _<_}
 use borrow.Author.Tests.{lt-leb, le-leb}
 use native.Mathlib.Omega.{arith}
@@ -12,12 +11,12 @@ use lib.ListN.{length}
 use Rattle.wire.specs.Le.{le, leBytes}
 use Rattle.wire.specs.Same.{same}
 use Rattle.wire.specs.Zeros.{zeros}
-use Rattle.pack.specs.declared.Verdict.the-variants.{Good, Mark}
-use Rattle.pack.specs.Invocation.{Position, Invocation, instructionAt}
+use Rattle.pack.specs.declared.Verdict.the-variants.{Mark}
+use Rattle.pack.specs.Invocation.{instructionAt}
 use Rattle.pack.specs.Sections.{mark, marked, startOf, ordered, hasSection, sectionOf}
 use Rattle.pack.specs.Items.{rows, rowsFill, keysFill, itemEnd, outersFrom, outersFill, heightAt, heightGood, innersEnd, innersGood, innersFrom, groupEnd, groupGood, groupAt, groupsFrom, groupsFill}
 use Rattle.pack.specs.View.{keysIn, balancesIn, outerIn, groupsIn, poolsIn, viewOf}
-use Rattle.pack.specs.Flatten.{numbered, inside, outermost, flattenFrom, flatten}
+use Rattle.pack.specs.Flatten.{numbered, inside, flattenFrom, flatten}
 use Rattle.pack.specs.Verdict.{verdict, numberOf, placeOf}
 
 -- a pack of five sections
@@ -78,22 +77,6 @@ cases =
 pub refusals : all-right cases ≡ true
 unfolding cases right all-right verdict marked mark same startOf ordered hasSection sectionOf le leBytes rows rowsFill keysFill itemEnd outersFrom outersFill heightAt heightGood innersEnd innersGood innersFrom groupEnd groupGood groupAt groupsFrom groupsFill keysIn balancesIn outerIn groupsIn poolsIn viewOf numbered inside flattenFrom flatten instructionAt
 refusals = refl
-
--- marked case g: two outer instructions 10 and 11, and groups of outer 1, 0 and 1 with one instruction each, 1, 2 and 3
-unfoldable pub case-g : List ℕ
-case-g = packed [] [] (plain 10 ++ plain 11) (group 1 1 ++ inner 1 2 1 ++ (group 0 1 ++ inner 1 2 2) ++ (group 1 1 ++ inner 1 2 3)) []
-
--- where each instruction is run, and its program
-abbrev pub told : Invocation → Position × ℕ
-told v = (v .position, v .instruction .program)
-
-abbrev within : ℕ → Position
-within o = record { outer = o; inner = some 0; height = some 2 }
-
--- outer 0, the second group, outer 1, the first group, the third
-pub groups-out-of-order : (verdict case-g ≡ Good) × (map told (flatten (viewOf case-g)) ≡ (outermost 0, 10) ∷ (within 0, 2) ∷ (outermost 1, 11) ∷ (within 1, 1) ∷ (within 1, 3) ∷ [])
-unfolding case-g verdict marked mark same startOf ordered hasSection sectionOf le leBytes rows rowsFill keysFill itemEnd outersFrom outersFill heightAt heightGood innersEnd innersGood innersFrom groupEnd groupGood groupAt groupsFrom groupsFill keysIn balancesIn outerIn groupsIn poolsIn viewOf numbered inside flattenFrom flatten instructionAt
-groups-out-of-order = (refl, refl)
 
 -- packs of every size that is not taken
 pub too-short : (p : List ℕ) → length p < 24 → verdict p ≡ Mark

@@ -17,3 +17,5 @@ pub mod Filling
 pub mod Success
 pub mod Called
 pub mod Claims
+pub mod Packing
+pub mod MarkedCases

@@ -12,3 +12,4 @@ pub mod Fit
 pub mod Arrays
 pub mod Filled
 pub mod Order
+pub mod MarkedCases

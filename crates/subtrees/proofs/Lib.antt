@@ -8,5 +8,4 @@ pub mod Arrays
 pub mod Walk
 pub mod Filling
 pub mod Numbers
-pub mod Cases
 pub mod Claims

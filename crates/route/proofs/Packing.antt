@@ -1,0 +1,40 @@
+-- The pack that says what a View says: how cases are handed to the public call.
+-- Assumes nothing.
+use Prim.Native.Nat.{ℕ}
+use mathlib.Core.List.{List, _∷_, _++_, flatMap}
+use mathlib.Core.Option.{Option}
+use lib.ListN.{length}
+use Rattle.wire.specs.Le.{leBytes}
+use Rattle.ids.specs.Keys.{Key}
+use Rattle.pack.specs.Invocation.{Instruction}
+use Rattle.pack.specs.Group.{Group}
+use Rattle.pack.specs.View.{View}
+use Rattle.pack.proofs.Cases.{packed}
+use Rattle.route.specs.Row.{flagged}
+
+-- a key after its flag, a mint after its account's index
+abbrev pub keyRow : ℕ × Key → List ℕ
+keyRow k = k .0 ∷ k .1
+
+abbrev pub balanceRow : ℕ × Key → List ℕ
+balanceRow b = leBytes 4 (b .0) ++ b .1
+
+-- program index, number of accounts, length of the data, both of these
+abbrev pub instructionItem : Instruction → List ℕ
+instructionItem x = leBytes 4 (x .program) ++ leBytes 2 (length (x .accounts)) ++ leBytes 2 (length (x .bytes)) ++ x .accounts ++ x .bytes
+
+-- a height, then as an outer instruction
+abbrev pub innerItem : Option ℕ × Instruction → List ℕ
+innerItem x = flagged (x .0) ++ instructionItem (x .1)
+
+abbrev pub groupItem : Group Instruction → List ℕ
+groupItem g = leBytes 4 (g .index) ++ leBytes 2 (length (g .items)) ++ flatMap innerItem (g .items)
+
+unfoldable pub packOf : View → List ℕ
+packOf v =
+    packed
+    (flatMap keyRow (v .keys))
+    (flatMap balanceRow (v .balances))
+    (flatMap instructionItem (v .outer))
+    (flatMap groupItem (v .groups))
+    (flatMap (λ k. k) (v .pools))
