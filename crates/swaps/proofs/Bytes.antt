@@ -3,17 +3,16 @@
 use mathlib.Core.Path.{_≡_, refl, sym, ap, _∙_}
 use mathlib.Core.Bool.{Bool, true, false, _&&_}
 use mathlib.Core.List.{List, [], _∷_}
-use Prim.Native.Nat.{ℕ, zero, suc, _+_, _*_, _/_, _%_, _≤_, _<_}
-use native.Mathlib.Nat.{add-zero, zero-add}
-use native.Mathlib.Numerals.{add-one, one-add}
+use Prim.Native.Nat.{ℕ, zero, suc, _+_, _≤_, _<_}
+use native.Mathlib.Nat.{zero-add}
 use native.Mathlib.Omega.{arith}
 use borrow.Author.Tests.{leb-true, eq-eqb, ne-eqb}
 use lib.Dec.{leb, eqb}
 use lib.ListN.{length, getD, take, drop, length-drop}
-use lib.Seq.{drop-cons, getD-take, getD-drop, take-all, length-take-le}
+use lib.Seq.{getD-take, getD-drop, take-all, length-take-le}
 use Rattle.wire.specs.Le.{le, leBytes}
 use Rattle.wire.specs.Same.{same, same-true, same-refl}
-use Rattle.wire.proofs.Laws.{le-split}
+use Rattle.wire.proofs.Laws.{le-back}
 use Rattle.swaps.specs.Discriminators.{eight}
 use Rattle.swaps.specs.Data.{is}
 
@@ -21,27 +20,9 @@ use Rattle.swaps.specs.Data.{is}
 abbrev pub Bytes : List ℕ → Type 0
 Bytes s = (i : ℕ) → getD s i 0 < 256
 
-low : (b y : ℕ) → b < 256 → (b + y * 256) % 256 ≡ b
-low b y h = omega arith
-
-high : (b y : ℕ) → b < 256 → (b + y * 256) / 256 ≡ y
-high b y h = omega arith
-
-one : (s : List ℕ) (at : ℕ) → le 1 s at ≡ getD s at 0
-unfolding le
-one s at = rw add-zero (omega arith)
-
--- a number of n + 1 bytes: its first byte, and the rest
-first : (n : ℕ) (s : List ℕ) (at : ℕ) → le (suc n) s at ≡ getD s at 0 + le n s (at + 1) * 256
-first n s at = ap (λ (k : ℕ). le k s at) (sym (one-add n)) ∙ (le-split 1 n s at ∙ rw (one s at))
-
 -- the bytes of the number are the bytes that it was read from
 back : (n : ℕ) (s : List ℕ) (at : ℕ) → Bytes s → at + n ≤ length s → leBytes n (le n s at) ≡ take n (drop at s)
-unfolding leBytes
-back zero s at h f = refl
-back (suc n) s at h f =
-    rw
-    (first n s at, low (getD s at 0) (le n s (at + 1)) (h at), high (getD s at 0) (le n s (at + 1)) (h at), back n s (at + 1) h (omega arith), drop-cons s at 0 (omega arith), add-one at)
+back n s at h f = le-back n s at (λ k l. h (at + k)) f
 
 -- bytes past the eighth do not count
 within : (n m : ℕ) (s : List ℕ) → n ≤ m → le n (take m s) 0 ≡ le n s 0

@@ -1,16 +1,18 @@
--- Laws of `le` and `leBytes`, over the width n, and what a copied run leaves.
+-- Laws of `le` and `leBytes`, over the width n.
 -- Assumes nothing.
-use mathlib.Core.Path.{_≡_, refl, ap}
-use mathlib.Core.List.{List, _++_, append-nil}
-use Prim.Native.Nat.{ℕ, zero, suc, _+_, _*_, _/_, _%_, _^_, _≤_, _<_}
+use mathlib.Core.Path.{_≡_, refl, sym, ap, subst, _∙_}
+use mathlib.Core.Bool.{Bool, true, false}
+use mathlib.Core.List.{List, _++_}
+use Prim.Native.Nat.{ℕ, zero, suc, _+_, _*_, _/_, _%_, _^_, _-_, _≤_, _<_}
 use native.Mathlib.Nat.{add-zero, add-suc, add-assoc, zero-mul, add-mul, mul-assoc, mul-comm, pow-suc, pow-succ', zero-add, suc-add, div-one, div-div-eq-div-mul, one-le-pow}
 use native.Mathlib.Omega.{arith}
 use lib.ListN.{length, getD, take, drop, drop-of-length-le, length-drop, length-take, List·getD-eq-default}
-use lib.Seq.{sets, take-length}
-use Rattle.wire.specs.Sets.{sets-part}
+use lib.Seq.{sets, take-length, drop-cons, getD-take, getD-drop}
+use lib.Dec.{ltb}
+use borrow.Author.Tests.{ltb-true, ltb-false}
 use lib.Pow.{pow-add}
 use lib.Arith.{digits-lt, digits-div, digits-mod, mod-mul}
-use Rattle.wire.specs.Le.{le, leBytes}
+use Rattle.wire.specs.Le.{le, leBytes, Bytes}
 
 -- all of it past the end: 0
 pub le-past : (n : ℕ) (s : List ℕ) (at : ℕ) → length s ≤ at → le n s at ≡ 0
@@ -50,9 +52,49 @@ leBytes-low (suc n) x =
     let low : x % 256 < 256 = omega arith in
     rw (pow-suc, mod-mul x {m = 256 ^ n} {c = 256} (one-le-pow n 256 (omega arith)) (omega arith), digits-div (x / 256 % 256 ^ n) low, digits-mod (x / 256 % 256 ^ n) low, leBytes-low n (x / 256))
 
--- a run copied into the part of a list that has its length
-pub laid : (d : List ℕ) (at : ℕ) (s : List ℕ) → at + length s ≤ length d → take at d ++ ((take (length s) s ++ drop (length s) (take (length s) (drop at d))) ++ drop (length s) (drop at d)) ≡ sets d at s
-laid d at s h =
+-- bytes, and bytes after them
+pub bytes-join : (n m : ℕ) (s : List ℕ) (at : ℕ) → Bytes s at n → Bytes s (at + n) m → Bytes s at (n + m)
+bytes-join n m s at h g k l = go (ltb k n) refl
+  where
+    far : n ≤ k → at + n + (k - n) ≡ at + k
+    far b = omega arith
+
+    go : (t : Bool) → ltb k n ≡ t → getD s (at + k) 0 < 256
+    go true e = h k (ltb-true k n e)
+    go false e = let b = ltb-false k n e in subst (λ (z : ℕ). getD s z 0 < 256) (far b) (g (k - n) (omega arith))
+
+-- two bytes
+pub bytes-two : (s : List ℕ) (at : ℕ) → getD s at 0 < 256 → getD s (at + 1) 0 < 256 → Bytes s at 2
+bytes-two s at h g zero l = rw (add-zero at) h
+bytes-two s at h g (suc zero) l = g
+bytes-two s at h g (suc (suc k)) l = absurd (omega arith)
+
+-- n + 1 bytes: the first, and the n after it
+le-first : (n : ℕ) (s : List ℕ) (at : ℕ) → le (suc n) s at ≡ getD s at 0 + le n s (suc at) * 256
+unfolding le
+le-first zero s at = rw add-zero (omega arith)
+le-first (suc n) s at = rw (le-first n s at, add-suc, suc-add, pow-succ' 256 n) (omega arith)
+
+-- a byte below others: its value, and theirs
+first-of : (b y : ℕ) → b < 256 → (b + y * 256) % 256 ≡ b
+first-of b y h = omega arith
+
+rest-of : (b y : ℕ) → b < 256 → (b + y * 256) / 256 ≡ y
+rest-of b y h = omega arith
+
+-- the bytes of the number are those that it was read from
+pub le-back : (n : ℕ) (s : List ℕ) (at : ℕ) → Bytes s at n → at + n ≤ length s → leBytes n (le n s at) ≡ take n (drop at s)
+unfolding leBytes
+le-back zero s at h f = refl
+le-back (suc n) s at h f =
+    let low : getD s at 0 < 256 = subst (λ (k : ℕ). getD s k 0 < 256) (add-zero at) (h 0 (omega arith)) in
     rw
-    (take-length s, drop-of-length-le (take (length s) (drop at d)) {i = length s} (simp (length-take, length-drop) (omega arith)), append-nil)
-    (sets-part d at s h)
+    (le-first n s at, first-of (getD s at 0) (le n s (suc at)) low, rest-of (getD s at 0) (le n s (suc at)) low, le-back n s (suc at) (λ k l. rw (suc-add at k, ← (add-suc at k)) (h (suc k) (omega arith))) (omega arith), drop-cons s at 0 (omega arith))
+
+-- bytes that are one number are the same bytes
+pub le-same : (n : ℕ) (a b : List ℕ) (at : ℕ) → Bytes a at n → Bytes b at n → at + n ≤ length a → at + n ≤ length b → le n a at ≡ le n b at → (k : ℕ) → k < n → getD a (at + k) 0 ≡ getD b (at + k) 0
+le-same n a b at h g la lb e k l =
+    sym (one a) ∙ (ap (λ (t : List ℕ). getD t k 0) (sym (le-back n a at h la) ∙ (ap (leBytes n) e ∙ le-back n b at g lb)) ∙ one b)
+  where
+    one : (s : List ℕ) → getD (take n (drop at s)) k 0 ≡ getD s (at + k) 0
+    one s = getD-take n (drop at s) k 0 l ∙ getD-drop at s k 0

@@ -57,10 +57,6 @@ pub sets-past : (l : List ℕ) (i : ℕ) (vs : List ℕ) → length l ≤ i → 
 sets-past l i [] h = refl
 sets-past l i (v ∷ vs) h = rw (set-out l i v h) (sets-past l (suc i) vs (omega arith))
 
--- what a copy into the part from i on leaves
-pub sets-part : (l : List ℕ) (i : ℕ) (vs : List ℕ) → i + length vs ≤ length l → take i l ++ (vs ++ drop (length vs) (drop i l)) ≡ sets l i vs
-sets-part l i vs h = rw (drop-drop (length vs) i l, sets-eq vs l i h, append-assoc)
-
 -- stores that run past the end
 pub sets-cut : (l : List ℕ) (i : ℕ) (vs : List ℕ) (n : ℕ) → i + n ≡ length l → n ≤ length vs → sets l i (take n vs) ≡ sets l i vs
 sets-cut l i vs n e h =

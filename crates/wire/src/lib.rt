@@ -1,13 +1,14 @@
 // Numbers and runs of bytes in slices, least byte first.
 //
 // Every function is total: a byte past the end reads as 0, and a store past the end does nothing. So a contract is one equation, with no condition on
-// offsets, and no caller has to prove that a field fits.
+// offsets, and no caller has to prove that a field fits. Where all bytes of a number are there, they are read and stored in one statement each, which
+// the compiler turns into one load or store; runs are copied and compared eight bytes at a time.
 ghost use mathlib.Core.Path.{_≡_};
-ghost use Prim.Native.Nat.{_+_, _≤_};
-ghost use lib.ListN.{length, getD, set};
+ghost use Prim.Native.Nat.{_+_, _-_, _<_, _≤_};
+ghost use lib.ListN.{length, getD, set, take, drop};
 ghost use lib.Seq.{sets};
-ghost use Rattle.wire.specs.Le.{le, leBytes};
-ghost use Rattle.wire.specs.Same.{same};
+ghost use Rattle.wire.specs.Le.{le, leBytes, Bytes};
+ghost use Rattle.wire.specs.Same.{same, Agrees};
 ghost use Rattle.wire.specs.Zeros.{zeros};
 
 // The byte at `at`.
@@ -17,13 +18,40 @@ pub fn byte(s: &[u8], at: usize) -> u8
     if at < s.len() { s[at] } else { 0 }
 }
 
+// A byte that is there.
+fn at(s: &[u8], i: usize) -> u8
+    requires { ⌜ i < length (now s) ⌝ }
+    ensures { λ r. ⌜ r ≡ getD (now (s .entry)) i 0 ⌝ }
+{
+    s[i]
+}
+
+// Two bytes that are there, and that they are bytes: who compares or copies them as a number needs that.
+fn two(s: &[u8], i: usize) -> u16
+    requires { ⌜ i + 2 ≤ length (now s) ⌝ }
+    ensures { λ r. ⌜ (r ≡ le 2 (now (s .entry)) i) × Bytes (now (s .entry)) i 2 ⌝ }
+{
+    at(s, i) as u16 + at(s, i + 1) as u16 * 256
+}
+
 pub fn u16_at(s: &[u8], at: usize) -> u16
     ensures { λ r. ⌜ r ≡ le 2 (now (s .entry)) at ⌝ }
 {
     if s.len() <= at {
         return 0;
     }
-    byte(s, at) as u16 + byte(s, at + 1) as u16 * 256
+    if 2 <= s.len() - at {
+        return two(s, at);
+    }
+    byte(s, at) as u16
+}
+
+// Four bytes that are there.
+fn four(s: &[u8], i: usize) -> u32
+    requires { ⌜ i + 4 ≤ length (now s) ⌝ }
+    ensures { λ r. ⌜ (r ≡ le 4 (now (s .entry)) i) × Bytes (now (s .entry)) i 4 ⌝ }
+{
+    two(s, i) as u32 + two(s, i + 2) as u32 * 65536
 }
 
 pub fn u32_at(s: &[u8], at: usize) -> u32
@@ -32,7 +60,18 @@ pub fn u32_at(s: &[u8], at: usize) -> u32
     if s.len() <= at {
         return 0;
     }
+    if 4 <= s.len() - at {
+        return four(s, at);
+    }
     u16_at(s, at) as u32 + u16_at(s, at + 2) as u32 * 65536
+}
+
+// Eight bytes that are there.
+fn eight(s: &[u8], i: usize) -> u64
+    requires { ⌜ i + 8 ≤ length (now s) ⌝ }
+    ensures { λ r. ⌜ (r ≡ le 8 (now (s .entry)) i) × Bytes (now (s .entry)) i 8 ⌝ }
+{
+    four(s, i) as u64 + four(s, i + 4) as u64 * 4294967296
 }
 
 pub fn u64_at(s: &[u8], at: usize) -> u64
@@ -40,6 +79,9 @@ pub fn u64_at(s: &[u8], at: usize) -> u64
 {
     if s.len() <= at {
         return 0;
+    }
+    if 8 <= s.len() - at {
+        return eight(s, at);
     }
     u32_at(s, at) as u64 + u32_at(s, at + 4) as u64 * 4294967296
 }
@@ -63,14 +105,45 @@ pub fn put_u16(d: &mut [u8], at: usize, x: u16)
     put_byte(d, at + 1, (x / 256 % 256) as u8);
 }
 
+// Stores two bytes that fit.
+fn put_two(d: &mut [u8], at: usize, x: u16)
+    requires { ⌜ at + 2 ≤ length (now d) ⌝ }
+    ensures { λ _. ⌜ now (d .exit) ≡ sets (now (d .entry)) at (leBytes 2 x) ⌝ }
+{
+    d[at] = (x % 256) as u8;
+    d[at + 1] = (x / 256 % 256) as u8;
+}
+
+// Stores four bytes that fit.
+fn put_four(d: &mut [u8], at: usize, x: u32)
+    requires { ⌜ at + 4 ≤ length (now d) ⌝ }
+    ensures { λ _. ⌜ now (d .exit) ≡ sets (now (d .entry)) at (leBytes 4 x) ⌝ }
+{
+    put_two(d, at, (x % 65536) as u16);
+    put_two(d, at + 2, (x / 65536) as u16);
+}
+
 pub fn put_u32(d: &mut [u8], at: usize, x: u32)
     ensures { λ _. ⌜ now (d .exit) ≡ sets (now (d .entry)) at (leBytes 4 x) ⌝ }
 {
     if d.len() <= at {
         return;
     }
+    if 4 <= d.len() - at {
+        put_four(d, at, x);
+        return;
+    }
     put_u16(d, at, (x % 65536) as u16);
     put_u16(d, at + 2, (x / 65536) as u16);
+}
+
+// Stores eight bytes that fit.
+fn put_eight(d: &mut [u8], at: usize, x: u64)
+    requires { ⌜ at + 8 ≤ length (now d) ⌝ }
+    ensures { λ _. ⌜ now (d .exit) ≡ sets (now (d .entry)) at (leBytes 8 x) ⌝ }
+{
+    put_four(d, at, (x % 4294967296) as u32);
+    put_four(d, at + 4, (x / 4294967296) as u32);
 }
 
 pub fn put_u64(d: &mut [u8], at: usize, x: u64)
@@ -79,8 +152,25 @@ pub fn put_u64(d: &mut [u8], at: usize, x: u64)
     if d.len() <= at {
         return;
     }
+    if 8 <= d.len() - at {
+        put_eight(d, at, x);
+        return;
+    }
     put_u32(d, at, (x % 4294967296) as u32);
     put_u32(d, at + 4, (x / 4294967296) as u32);
+}
+
+// Copies eight bytes of a run from place i on, or one where there are fewer; answers how many.
+fn carry(d: &mut [u8], at: usize, s: &[u8], i: usize) -> usize
+    requires { ⌜ (i < length (now s)) × (at + (length (now s) - i) ≤ length (now d)) ⌝ }
+    ensures { λ r. ⌜ (0 < r) × (i + r ≤ length (now (s .entry))) × (now (d .exit) ≡ sets (now (d .entry)) at (take r (drop i (now (s .entry))))) ⌝ }
+{
+    if 8 <= s.len() - i {
+        put_eight(d, at, eight(s, i));
+        return 8;
+    }
+    d[at] = s[i];
+    1
 }
 
 // Copies a run that fits.
@@ -88,8 +178,10 @@ fn lay(d: &mut [u8], at: usize, s: &[u8])
     requires { ⌜ at + length (now s) ≤ length (now d) ⌝ }
     ensures { λ _. ⌜ now (d .exit) ≡ sets (now (d .entry)) at (now (s .entry)) ⌝ }
 {
-    let end = at + s.len();
-    bytes::copy(s, &mut d[at..end]);
+    let mut i = 0;
+    while i < s.len() {
+        i += carry(d, at + i, s, i);
+    }
 }
 
 // Copies a run into a row.
@@ -118,6 +210,23 @@ pub fn clear(d: &mut [u8])
     }
 }
 
+// How many bytes from place i on are compared at once: eight, or one where there are fewer; none where they differ.
+fn agree(a: &[u8], b: &[u8], i: usize) -> usize
+    requires { ⌜ (i < length (now a)) × (length (now a) ≡ length (now b)) ⌝ }
+    ensures { λ r. ⌜ Agrees (now (a .entry)) (now (b .entry)) i r ⌝ }
+{
+    if 8 <= a.len() - i {
+        if eight(a, i) != eight(b, i) {
+            return 0;
+        }
+        return 8;
+    }
+    if a[i] != b[i] {
+        return 0;
+    }
+    1
+}
+
 // Whether two runs are the same.
 pub fn equal(a: &[u8], b: &[u8]) -> bool
     ensures { λ r. ⌜ r ≡ same (now (a .entry)) (now (b .entry)) ⌝ }
@@ -127,10 +236,11 @@ pub fn equal(a: &[u8], b: &[u8]) -> bool
     }
     let mut i = 0;
     while i < a.len() {
-        if a[i] != b[i] {
+        let n = agree(a, b, i);
+        if n == 0 {
             return false;
         }
-        i += 1;
+        i += n;
     }
     true
 }

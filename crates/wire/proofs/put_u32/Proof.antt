@@ -7,40 +7,57 @@ use Rattle.wire.proofs.put_u32.Statement.{statement}
 use Rattle.wire.proofs.put_u32.Tie as tie
 use Rattle.wire.proofs.put_u32.Reads as reads
 use Rattle.wire.proofs.put_u32.Lts as lts
+use Rattle.wire.proofs.put_four.Reads as put-four-reads
 use Rattle.wire.proofs.put_u16.Reads as put-u16-reads
 
--- src/lib.rt:69:9
+-- src/lib.rt:130:9
 returns : tie.Need-returns
 returns c = sym (sets-past (c .before .before .args .d .now) (c .before .before .args .at) (leBytes 4 (c .before .before .args .x)) (c .if1 .taken))
 
--- src/lib.rt:71:20
-cast-put-u16 : tie.Need-cast-put-u16
-cast-put-u16 c = search needs
+-- src/lib.rt:132:13
+sub-if2 : tie.Need-sub-if2
+sub-if2 c = search needs
 
--- src/lib.rt:71:5
-put-u16-requires : tie.Need-put-u16-requires
-put-u16-requires c κs = search needs
+-- src/lib.rt:133:9
+put-four-requires : tie.Need-put-four-requires
+put-four-requires c κs = search needs
 
--- src/lib.rt:72:16
-add-put-u16 : tie.Need-add-put-u16
-add-put-u16 c = search needs
-
--- src/lib.rt:72:24
-cast-put-u16-2 : tie.Need-cast-put-u16-2
-cast-put-u16-2 c = search needs
-
--- src/lib.rt:72:5
-put-u16-requires-2 : tie.Need-put-u16-requires-2
-put-u16-requires-2 c κs = search needs
-
--- src/lib.rt:65:1
+-- src/lib.rt:134:9
 same-length : tie.Need-same-length
 same-length c = search needs
 
--- src/lib.rt:65:1
+-- src/lib.rt:134:9
 returns-2 : tie.Need-returns-2
-returns-2 c =
-    let x = c .before .before .before .before .before .before .before .before .before .before .args .x in
+returns-2 c = search needs
+
+-- src/lib.rt:136:20
+cast-put-u16 : tie.Need-cast-put-u16
+cast-put-u16 c = search needs
+
+-- src/lib.rt:136:5
+put-u16-requires : tie.Need-put-u16-requires
+put-u16-requires c κs = search needs
+
+-- src/lib.rt:137:16
+add-put-u16 : tie.Need-add-put-u16
+add-put-u16 c = search needs
+
+-- src/lib.rt:137:24
+cast-put-u16-2 : tie.Need-cast-put-u16-2
+cast-put-u16-2 c = search needs
+
+-- src/lib.rt:137:5
+put-u16-requires-2 : tie.Need-put-u16-requires-2
+put-u16-requires-2 c κs = search needs
+
+-- src/lib.rt:126:1
+same-length-2 : tie.Need-same-length-2
+same-length-2 c = search needs
+
+-- src/lib.rt:126:1
+returns-3 : tie.Need-returns-3
+returns-3 c =
+    let x = c .before .before .before .before .before .before .before .before .before .before .before .args .x in
     rw (c .before .before .put-u162 .ensures, c .before .before .before .before .before .before .put-u16 .ensures, leBytes-low 2 x, leBytes-split 2 2 x, sets-append, leBytes-length)
 
 pub put-u32-spec : {M : Type 1} → statement M
@@ -48,10 +65,14 @@ put-u32-spec =
     tie.close
     (tie.spec
     returns
+    sub-if2
+    put-four-requires
+    same-length
+    returns-2
     cast-put-u16
     put-u16-requires
     add-put-u16
     cast-put-u16-2
     put-u16-requires-2
-    same-length
-    returns-2)
+    same-length-2
+    returns-3)
