@@ -1,9 +1,9 @@
 -- What is written of a leg that is known by its index bytes.
 -- Assumes nothing.
-use mathlib.Core.Path.{_≡_, refl, _∙_}
+use mathlib.Core.Path.{_≡_, refl}
 use mathlib.Core.Bool.{cond}
 use mathlib.Core.List.{List}
-use mathlib.Core.Option.{Option, none, some}
+use mathlib.Core.Option.{Option, none}
 use Prim.Native.Nat.{ℕ}
 use Rattle.ids.specs.Keys.{Key, keyOf}
 use Rattle.ids.specs.declared.Id.{Id}
@@ -16,8 +16,7 @@ use Rattle.swaps.specs.Row.{isMint, known}
 use Rattle.swaps.specs.Swap.{byProgram, swap}
 use Rattle.evidence.specs.MintTable.{MintRow, mintIn}
 use Rattle.route.specs.Legs.{legOf}
-use Rattle.route.specs.Mints.{programOf}
-use Rattle.route.specs.Program.{skips}
+use Rattle.route.specs.Program.{programOf, skips}
 
 -- a mint that is handed in as bytes means the same to a transfer's row and to a leg's
 pub known-mint : (m : List ℕ) → known m ≡ mintOf m

@@ -15,9 +15,9 @@ use Rattle.evidence.specs.Ascending.{Ascending, asc-cons}
 use Rattle.evidence.specs.Independence.{Apart, Unjoined, unjoined-apart}
 use Rattle.evidence.specs.MintTable.{Answer, rowAccounts}
 use Rattle.evidence.specs.Order.{row-right, row-reached, row-order, row-kept, row-sure, Alike}
+use Rattle.mints.specs.Bytes.{mintRow}
 use Rattle.pack.specs.Items.{rows}
 use Rattle.route.specs.Lay.{written}
-use Rattle.route.specs.Tables.{mintRow}
 use Rattle.route.specs.Route.{Lent, Routed, refused, accepted, route}
 use Rattle.route.specs.Order.{evidenceIn, plainsIn, mintsIn, SameEvidence, mintsLeft, Succeeds, ClearsSeven, NoRoom}
 use Rattle.route.proofs.OrderTable.{row-at, mints-rows, mints-written}

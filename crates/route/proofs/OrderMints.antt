@@ -4,7 +4,7 @@ use mathlib.Core.Path.{_≡_, refl, subst}
 use mathlib.Core.Bool.{Bool, true, false, cond, not}
 use mathlib.Core.List.{List, List·Memᴰ, List·Memᴰ·head, List·Memᴰ·tail, List·Memᴰ·not-nil, Memᴰ·of-map, Memᴰ·cast}
 use mathlib.Core.Option.{some}
-use Prim.Native.Nat.{ℕ, zero, suc, _*_, _/_, _≤_, _<_}
+use Prim.Native.Nat.{ℕ, zero, suc, _*_, _/_, _≤_}
 use native.Mathlib.Nat.{suc-mul}
 use native.Mathlib.Omega.{arith}
 use lib.Dec.{ltb}
@@ -13,6 +13,7 @@ use lib.Seq.{length-take-le}
 use borrow.Author.Tests.{ltb-false}
 use Rattle.wire.specs.Le.{le}
 use Rattle.ids.specs.Keys.{Key, keyCount, keyOf}
+use Rattle.ids.specs.Which.{programAt}
 use Rattle.pack.specs.Sections.{marked, ordered, sectionOf}
 use Rattle.pack.specs.Items.{rows, keysFill, rowsFill, outersWhole, groupsWhole}
 use Rattle.pack.specs.View.{balancesIn, viewOf}
@@ -31,7 +32,7 @@ use Rattle.evidence.specs.Final.{final-sorted, final-gives}
 use Rattle.evidence.specs.Gather.{gather-same, append-same}
 use Rattle.evidence.specs.MintTable.{Answer, mintTable}
 use Rattle.evidence.specs.Order.{Made, mints-made, answered-256, row-right, Alike, alike}
-use Rattle.route.specs.Mints.{balanceSays, recordsOf, plainOf, evidenceOf, plainsOf}
+use Rattle.mints.specs.Inference.{balanceSays, says, moves, evidenceOf, transfersOf, inferred}
 use Rattle.route.specs.Order.{instructionsIn, evidenceIn, plainsIn, mintsIn, SameEvidence}
 use Rattle.route.proofs.Rows.{tab-length}
 use Rattle.route.proofs.OrderKeys.{plains-hold, evidence-holds, among, Wide, wide}
@@ -71,12 +72,14 @@ few-keys p e =
 
 -- such a pack has a mint table, after at most 256 passes
 pub answered : (p : List ℕ) → numberOf (verdict p) ≡ 0 → (x : Answer) × (mintsIn p ≡ some x) × (x .room ≤ 256) × (x .passes ≤ 256)
+unfolding inferred
 answered p e =
     answered-256
     (among (sectionOf p 0) (viewOf p .balances) (instructionsIn p))
     (rw (tab-length (keyOf (sectionOf p 0)) 0 (keyCount (sectionOf p 0))) (few-keys p e))
 
 pub made : (p : List ℕ) {x : Answer} → mintsIn p ≡ some x → Made (evidenceIn p) (plainsIn p) x
+unfolding inferred
 made p q = mints-made 512 (evidenceIn p) (plainsIn p) q
 
 rows-wide : (w n : ℕ) (s : List ℕ) {r : List ℕ} → n * w ≤ length s → List·Memᴰ r (rows w n s) → length r ≡ w
@@ -96,13 +99,13 @@ balance-wide p b i =
 
 module _ (p : List ℕ) where
   joined-wide : {a b : Key} → Joined (plainsIn p) a b → Wide b
-  joined-wide (joined (forth q) i) = (plains-hold (sectionOf p 0) (wide (sectionOf p 0)) (instructionsIn p) (Memᴰ·cast q i)) .1
-  joined-wide (joined (back q) i) = (plains-hold (sectionOf p 0) (wide (sectionOf p 0)) (instructionsIn p) (Memᴰ·cast q i)) .0
+  joined-wide (joined (forth q) i) = (plains-hold (programAt (sectionOf p 0)) (wide (sectionOf p 0)) (instructionsIn p) (Memᴰ·cast q i)) .1
+  joined-wide (joined (back q) i) = (plains-hold (programAt (sectionOf p 0)) (wide (sectionOf p 0)) (instructionsIn p) (Memᴰ·cast q i)) .0
 
   -- so have the account that a chain reaches, and its mint
   chain-wide : {a m : Key} → Chain (evidenceIn p) (plainsIn p) m a → Wide a × Wide m
   chain-wide (start o) =
-      let k = evidence-holds (sectionOf p 0) (wide (sectionOf p 0)) (viewOf p .balances) (instructionsIn p) (o .says .piece) in
+      let k = evidence-holds (programAt (sectionOf p 0)) (wide (sectionOf p 0)) (viewOf p .balances) (instructionsIn p) (o .says .piece) in
       (k .0, k .1 (balance-wide p))
   chain-wide (along c j f n) = (joined-wide j, (chain-wide c) .1)
 
@@ -121,15 +124,17 @@ rows-room {e} {ps} {x} y =
 -- the same evidence, in another order
 module _ {p q : List ℕ} (h : SameEvidence p q) where
   pub same-evidence : SameMembers (evidenceIn p) (evidenceIn q)
+  unfolding evidenceOf
   same-evidence =
       subst
-      (λ (ks : List ℕ). SameMembers (evidenceIn p) (evidenceOf ks (viewOf q .balances) (instructionsIn q)))
+      (λ (ks : List ℕ). SameMembers (evidenceIn p) (evidenceOf (keyOf ks) (programAt ks) (viewOf q .balances) (instructionsIn q)))
       (h .keys)
-      (append-same (gather-same (balanceSays (sectionOf p 0)) (h .balances)) (gather-same (recordsOf (sectionOf p 0)) (h .invocations)))
+      (append-same (gather-same (balanceSays (keyOf (sectionOf p 0))) (h .balances)) (gather-same (says (keyOf (sectionOf p 0)) (programAt (sectionOf p 0))) (h .invocations)))
 
   pub same-plains : SameMembers (plainsIn p) (plainsIn q)
+  unfolding transfersOf
   same-plains =
-      subst (λ (ks : List ℕ). SameMembers (plainsIn p) (plainsOf ks (instructionsIn q))) (h .keys) (gather-same (plainOf (sectionOf p 0)) (h .invocations))
+      subst (λ (ks : List ℕ). SameMembers (plainsIn p) (transfersOf (keyOf ks) (programAt ks) (instructionsIn q))) (h .keys) (gather-same (moves (keyOf (sectionOf p 0)) (programAt (sectionOf p 0))) (h .invocations))
 
   -- the two mint tables are alike
   pub tables-alike : {x y : Answer} → mintsIn p ≡ some x → mintsIn q ≡ some y → Alike (evidenceIn p) (plainsIn p) x y

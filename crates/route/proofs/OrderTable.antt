@@ -11,8 +11,8 @@ use Rattle.wire.specs.Zeros.{zeros}
 use Rattle.wire.specs.Sets.{sets-next}
 use Rattle.pack.specs.Items.{rows}
 use Rattle.evidence.specs.MintTable.{MintRow}
+use Rattle.mints.specs.Bytes.{mintRow}
 use Rattle.route.specs.Lay.{placed, written}
-use Rattle.route.specs.Tables.{mintRow}
 use Rattle.route.specs.Order.{mintRead, mintsRead}
 
 -- every row has w bytes

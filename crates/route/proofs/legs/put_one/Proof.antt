@@ -2,7 +2,7 @@ use Rattle.route.proofs.Legging.{known-mint, leg-swap}
 use Rattle.route.specs.Known.{mintAt, Holds}
 use Rattle.route.specs.Lay.{placed}
 use Rattle.route.specs.Legs.{legRows}
-use Rattle.route.specs.Mints.{programOf}
+use Rattle.route.specs.Program.{programOf}
 use Rattle.swaps.proofs.View.{no-leg, a-leg}
 use Rattle.swaps.specs.declared.Found.the-variants.{Nothing, Leg}
 use Rattle.swaps.specs.Row.{known, poolsOf}
