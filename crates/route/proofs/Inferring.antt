@@ -10,15 +10,13 @@ use native.Mathlib.Nat.{suc-mul, zero-mul, eq-or-lt-of-le, le-of-suc-le-suc}
 use native.Mathlib.Decide.{ℕ-discrete, decLt}
 use native.Mathlib.Omega.{arith}
 use borrow.Author.Tests.{eq-eqb, le-ltb}
-use Rattle.subtrees.proofs.Arrays.{zeros-at}
 use lib.ListN.{length, drop, length-append, length-take, length-drop, length-replicate}
 use lib.Seq.{sets, sets-eq, length-sets, take-at, drop-at, ext-getD, getD-take, getD-drop}
 use Rattle.wire.specs.Same.{same, same-eq, same-ne}
 use Rattle.wire.specs.Sets.{sets-after}
-use Rattle.wire.specs.Zeros.{zeros}
+use Rattle.wire.specs.Zeros.{zeros, zeros-at}
 use Rattle.ids.specs.Keys.{Key, zeroKey, keyOf, keyCount}
-use Rattle.token.specs.Rows.{mintOf}
-use Rattle.token.specs.Transfers.{isZero}
+use Rattle.ids.specs.Mints.{isMint, mintOf}
 use Rattle.evidence.specs.MintTable.{MintRow, mintIn}
 use Rattle.mints.specs.Bytes.{mintRow, tableBytes, orZero, mintsOf}
 use Rattle.route.specs.Known.{mintAt, Holds}
@@ -49,7 +47,7 @@ mint-row (r ∷ l) a m e =
 module _ {l : List MintRow} (s : Sound l) where
   -- as 32 bytes and back
   pub told : (a : Key) → mintOf (orZero (mintIn l a)) ≡ mintIn l a
-  unfolding mintOf orZero isZero zeroKey same
+  unfolding mintOf isMint orZero zeroKey same
   told a = go (mintIn l a) refl
     where
       go : (o : Option Key) → mintIn l a ≡ o → mintOf (orZero o) ≡ o

@@ -16,7 +16,7 @@ use Rattle.ids.specs.Which.{programAt}
 use Rattle.pack.specs.Invocation.{Instruction}
 use Rattle.token.specs.Tokens.{initialises, plainTransfer, checkedTransfer, feeTransfer}
 use Rattle.token.specs.Records.{bothEnds, records, plain}
-use Rattle.token.proofs.Fields.{key-length}
+use Rattle.ids.proofs.Keys.{key-length}
 use Rattle.evidence.specs.Table.{Row}
 use Rattle.evidence.specs.Gather.{gather, gather-mem}
 use Rattle.evidence.specs.Bound.{Among}

@@ -1,26 +1,22 @@
 -- The mint table of a pack: there always is one, its keys have 32 bytes, and it does not depend on the order of the evidence.
 -- Assumes nothing.
-use mathlib.Core.Path.{_≡_, refl, subst}
-use mathlib.Core.Bool.{Bool, true, false, cond, not}
+use mathlib.Core.Path.{_≡_, subst}
 use mathlib.Core.List.{List, List·Memᴰ, List·Memᴰ·head, List·Memᴰ·tail, List·Memᴰ·not-nil, Memᴰ·of-map, Memᴰ·cast}
 use mathlib.Core.Option.{some}
 use Prim.Native.Nat.{ℕ, zero, suc, _*_, _/_, _≤_}
 use native.Mathlib.Nat.{suc-mul}
 use native.Mathlib.Omega.{arith}
-use lib.Dec.{ltb}
 use lib.ListN.{length, drop, length-map, length-drop}
 use lib.Seq.{length-take-le}
-use borrow.Author.Tests.{ltb-false}
 use Rattle.wire.specs.Le.{le}
 use Rattle.ids.specs.Keys.{Key, keyCount, keyOf}
 use Rattle.ids.specs.Which.{programAt}
-use Rattle.pack.specs.Sections.{marked, ordered, sectionOf}
-use Rattle.pack.specs.Items.{rows, keysFill, rowsFill, outersWhole, groupsWhole}
+use Rattle.pack.specs.Sections.{sectionOf}
+use Rattle.pack.specs.Items.{rows}
 use Rattle.pack.specs.View.{balancesIn, viewOf}
-use Rattle.pack.specs.Flatten.{flatten}
 use Rattle.pack.specs.Verdict.{verdict, numberOf}
-use Rattle.pack.specs.declared.Verdict.the-variants.{Good, Mark, Starts, Section, Keys, Invocations}
 use Rattle.pack.proofs.Sizes.{keys-length}
+use Rattle.pack.proofs.Good.{passed}
 use Rattle.evidence.specs.Table.{SameMembers}
 use Rattle.evidence.specs.Evidence.{Evidence}
 use Rattle.evidence.specs.Passes.{Transfers, forth, back, Joined, joined}
@@ -33,42 +29,14 @@ use Rattle.evidence.specs.Gather.{gather-same, append-same}
 use Rattle.evidence.specs.MintTable.{Answer, mintTable}
 use Rattle.evidence.specs.Order.{Made, mints-made, answered-256, row-right, Alike, alike}
 use Rattle.mints.specs.Inference.{balanceSays, says, moves, evidenceOf, transfersOf, inferred}
+use Rattle.subtrees.proofs.Arrays.{tab-length}
 use Rattle.route.specs.Order.{instructionsIn, evidenceIn, plainsIn, mintsIn, SameEvidence}
-use Rattle.route.proofs.Rows.{tab-length}
 use Rattle.route.proofs.OrderKeys.{plains-hold, evidence-holds, among, Wide, wide}
 use Rattle.route.proofs.OrderTable.{Sized}
 
--- where all checks are passed, that of the keys is
-keys-passed : (a b c d e f g k n : Bool)
-    → numberOf (cond a Mark (cond b Starts (cond c (Section 0) (cond d (Section 1) (cond e (Section 2) (cond f (Section 3) (cond g (Section 4) (cond k Keys (cond n Invocations Good))))))))) ≡ 0
-    → k ≡ false
-keys-passed true b c d e f g k n h = absurd (omega arith)
-keys-passed false true c d e f g k n h = absurd (omega arith)
-keys-passed false false true d e f g k n h = absurd (omega arith)
-keys-passed false false false true e f g k n h = absurd (omega arith)
-keys-passed false false false false true f g k n h = absurd (omega arith)
-keys-passed false false false false false true g k n h = absurd (omega arith)
-keys-passed false false false false false false true k n h = absurd (omega arith)
-keys-passed false false false false false false false true n h = absurd (omega arith)
-keys-passed false false false false false false false false n h = refl
-
 -- a pack that is not refused has at most 256 keys
 pub few-keys : (p : List ℕ) → numberOf (verdict p) ≡ 0 → keyCount (sectionOf p 0) ≤ 256
-unfolding verdict
-few-keys p e =
-    let k =
-    keys-passed
-    (not (marked p))
-    (not (ordered p))
-    (not (keysFill (sectionOf p 0)))
-    (not (rowsFill 36 (sectionOf p 1)))
-    (not (outersWhole (sectionOf p 2)))
-    (not (groupsWhole (sectionOf p 3)))
-    (not (rowsFill 32 (sectionOf p 4)))
-    (ltb 256 (length (viewOf p .keys)))
-    (ltb 1024 (length (flatten (viewOf p))))
-    e in
-    omega (arith, keys-length p, ltb-false 256 (length (viewOf p .keys)) k)
+few-keys p e = omega (arith, keys-length p, passed p e .few-keys)
 
 -- such a pack has a mint table, after at most 256 passes
 pub answered : (p : List ℕ) → numberOf (verdict p) ≡ 0 → (x : Answer) × (mintsIn p ≡ some x) × (x .room ≤ 256) × (x .passes ≤ 256)
