@@ -1,5 +1,5 @@
 -- Lists ascending by a key: such a list is told by its members, whoever sorted it. Assumes nothing.
-use mathlib.Core.Path.{_≡_, refl, sym, _∙_, ap₂, subst}
+use mathlib.Core.Path.{_≡_, refl, sym, _∙_, ap, ap₂, subst}
 use mathlib.Core.Logic.{_⊎_, inl, inr, ⊎-map}
 use mathlib.Core.List.{List, [], _∷_, _++_, map, List·Memᴰ, List·Memᴰ·head, List·Memᴰ·tail, List·Memᴰ·cases-cons, List·Memᴰ·not-nil, Memᴰ·of-map}
 use Prim.Native.Nat.{ℕ, zero, suc, _≤_, _<_}
@@ -14,6 +14,15 @@ use Rattle.evidence.specs.Table.{SameMembers}
 pub data Ascending {A : Type 0} (key : A → Key) : List A → Type 0 where
   asc-nil : Ascending key []
   asc-cons : {r : A} {t : List A} → ((x : A) → List·Memᴰ x t → Below (key r) (key x)) → Ascending key t → Ascending key (r ∷ t)
+
+-- two members with one key are one
+pub ascending-once : {A : Type 0} {key : A → Key} {t : List A} {x y : A} → Ascending key t → List·Memᴰ x t → List·Memᴰ y t → key x ≡ key y → x ≡ y
+ascending-once (asc-cons f s) (List·Memᴰ·head d) (List·Memᴰ·head e) k = d ∙ sym e
+ascending-once {A} {key} {x} {y} (asc-cons {r} f s) (List·Memᴰ·head d) (List·Memᴰ·tail j) k =
+    absurd (below-irrefl (subst (λ (a : Key). Below a (key y)) (sym (ap key d) ∙ k) (f y j)))
+ascending-once {A} {key} {x} {y} (asc-cons {r} f s) (List·Memᴰ·tail i) (List·Memᴰ·head e) k =
+    absurd (below-irrefl (subst (λ (a : Key). Below a (key x)) (sym (ap key e) ∙ sym k) (f x i)))
+ascending-once (asc-cons f s) (List·Memᴰ·tail i) (List·Memᴰ·tail j) k = ascending-once s i j k
 
 -- two ascending lists with the same members are equal
 pub ascending-unique : {A : Type 0} {key : A → Key} {t u : List A} → Ascending key t → Ascending key u → SameMembers t u → t ≡ u

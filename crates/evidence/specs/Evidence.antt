@@ -4,8 +4,7 @@ use mathlib.Core.Logic.{_≢_}
 use mathlib.Core.Bool.{cond, _||_}
 use mathlib.Core.List.{List, [], _∷_, List·Memᴰ}
 use Rattle.wire.specs.Same.{same}
-use Rattle.ids.specs.Keys.{Key, zeroKey}
-use Rattle.evidence.specs.Keys.{isZero}
+use Rattle.ids.specs.Keys.{Key, zeroKey, isZero}
 use Rattle.evidence.specs.Table.{Row, Table, Has, Lacks}
 
 -- pieces of evidence (account, mint), in order

@@ -4,8 +4,8 @@ use mathlib.Core.Logic.{_≢_, by-cases}
 use mathlib.Core.Bool.{cond}
 use mathlib.Core.List.{[], _∷_, List·Memᴰ, List·Memᴰ·head, List·Memᴰ·tail, List·Memᴰ·not-nil}
 use Rattle.wire.specs.Same.{same-eq, same-ne}
-use Rattle.ids.specs.Keys.{Key, zeroKey}
-use Rattle.evidence.specs.Keys.{isZero, key?}
+use Rattle.ids.specs.Keys.{Key, zeroKey, isZero}
+use Rattle.evidence.specs.Keys.{key?}
 use Rattle.evidence.specs.Table.{Row, Table, Has, Lacks, lacks-cons, row-of-has}
 use Rattle.evidence.specs.Distinct.{Distinct, distinct-cons, row-has}
 use Rattle.evidence.specs.Sorted.{Sorted, sort, sort-same, sorted-sort, sorted-distinct}

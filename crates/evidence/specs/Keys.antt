@@ -1,4 +1,4 @@
--- The zero key, the decision between two keys, and their order byte by byte, each with the lemmas by which proofs use it. Assumes nothing.
+-- The decision between two keys, and their order byte by byte, each with the lemmas by which proofs use it. Assumes nothing.
 use mathlib.Core.Path.{_≡_, refl, sym, _∙_, ap₂}
 use mathlib.Core.Logic.{_≢_}
 use mathlib.Core.Bool.{Bool, true, false, false≢true, _&&_, _||_, or-true, and-false}
@@ -9,12 +9,7 @@ use native.Mathlib.Decide.{ℕ-discrete, decLt}
 use native.Mathlib.Omega.{arith}
 use lib.Dec.{eqb, ltb}
 use borrow.Author.Tests.{eq-eqb, ne-eqb, lt-ltb, le-ltb}
-use Rattle.wire.specs.Same.{same}
-use Rattle.ids.specs.Keys.{Key, zeroKey}
-
--- whether a key is the zero key, which stands for no account and for no mint
-abbrev pub isZero : Key → Bool
-isZero a = same a zeroKey
+use Rattle.ids.specs.Keys.{Key}
 
 -- the decision that proofs go by cases on
 pub key? : (a b : Key) → Dec (a ≡ b)

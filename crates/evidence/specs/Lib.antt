@@ -1,5 +1,5 @@
 -- Where an account's mint comes from. Each module rests on those above it:
---   Keys          the zero key, the order of keys                    Table         rows, `lookup`, `Has`, `Lacks`
+--   Keys          which of two keys stands below                     Table         rows, `lookup`, `Has`, `Lacks`
 --   Evidence      `recorded`; `Says`, `Free`, `One`, `Clash`         Recording     T1: `recorded-noted`
 --   Distinct      T2: no account twice; counting by accounts         Passes        `step`, `pass`; how a table grows
 --   Run, Infer    `run`, `infer`: passes until one adds nothing      Chains        T3: `settled-sound`, T4: `complete`, `rowed`

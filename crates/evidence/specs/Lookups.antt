@@ -6,8 +6,8 @@ use mathlib.Core.Option.{Option, none, some}
 use Prim.Native.Nat.{suc}
 use lib.ListN.{length}
 use Rattle.wire.specs.Same.{same, same-eq, same-ne}
-use Rattle.ids.specs.Keys.{Key, zeroKey}
-use Rattle.evidence.specs.Keys.{isZero, key?}
+use Rattle.ids.specs.Keys.{Key, zeroKey, isZero}
+use Rattle.evidence.specs.Keys.{key?}
 use Rattle.evidence.specs.Table.{Row, Table, add, lookup, Has, has-here, has-there, Found, at, nowhere, found, has-lookup, lacks-lookup, lookup-has, lookup-lacks, has-add, has-new, has-not-lacks, has-one, lacks-add}
 use Rattle.evidence.specs.Evidence.{Evidence, put, note}
 use Rattle.evidence.specs.Recording.{put-same, put-clash, put-new, put-other, put-other-lacks, note-valid, note-cases}

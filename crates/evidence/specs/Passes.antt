@@ -8,8 +8,8 @@ use Prim.Native.Nat.{suc, _≤_}
 use native.Mathlib.Omega.{arith}
 use lib.ListN.{length, length-append}
 use Rattle.wire.specs.Same.{same-eq, same-ne}
-use Rattle.ids.specs.Keys.{Key, zeroKey}
-use Rattle.evidence.specs.Keys.{isZero, key?}
+use Rattle.ids.specs.Keys.{Key, zeroKey, isZero}
+use Rattle.evidence.specs.Keys.{key?}
 use Rattle.evidence.specs.Table.{Row, Table, add, lookup, Has, Lacks, Found, at, nowhere, found, has-not-lacks, has-one}
 
 -- plain transfers (source, destination), in order

@@ -2,9 +2,10 @@
 -- Assumes nothing.
 use Prim.Native.Nat.{ℕ, _+_, _*_, _/_}
 use mathlib.Core.List.{List}
-use mathlib.Core.Bool.{cond}
+use mathlib.Core.Bool.{Bool, cond}
 use lib.Dec.{ltb}
 use lib.ListN.{length, getD, take, drop}
+use Rattle.wire.specs.Same.{same}
 use Rattle.wire.specs.Zeros.{zeros}
 
 -- a key: 32 bytes in use
@@ -14,6 +15,10 @@ Key = List ℕ
 -- the stand-in for a key that is missing, and the System program's key
 unfoldable pub zeroKey : Key
 zeroKey = zeros 32
+
+-- whether a key is zero: it stands for no account and for no mint
+abbrev pub isZero : Key → Bool
+isZero k = same k zeroKey
 
 -- how many 33-byte rows stand in a key section: each a flag, then a key
 abbrev pub keyCount : List ℕ → ℕ

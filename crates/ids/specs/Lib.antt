@@ -1,3 +1,4 @@
 pub mod Keys
+pub mod Mints
 pub mod Ids
 pub mod Which

@@ -1,4 +1,4 @@
-// Keys and ids: the key at an index, and which program it is.
+// Keys and ids: the key at an index, which program it is, and keys and mints as fields of a row.
 //
 // The fourteen ids of the original stand in one table, whose rule (no two rows equal, none zero) is computed once. A missing key is the stand-in handed in
 // beside the keys, and a program is resolved only in range with flag 1.
@@ -7,9 +7,11 @@ ghost use mathlib.Core.Bool.{_&&_};
 ghost use Prim.Native.Nat.{_<_};
 ghost use lib.Dec.{ltb};
 ghost use lib.ListN.{getD};
+ghost use lib.Seq.{sets};
 ghost use Rattle.wire.specs.Same.{same};
 ghost use Rattle.ids.specs.Ids.{ids, idAt};
-ghost use Rattle.ids.specs.Keys.{keyAt, keyCount};
+ghost use Rattle.ids.specs.Keys.{keyAt, keyOf, keyCount};
+ghost use Rattle.ids.specs.Mints.{isMint, mintOf, mintField};
 ghost use Rattle.ids.specs.Which.{ofNumber, rowFrom, which as whichOf, programAt};
 
 const IDS: [u8; 448] = *b"\
@@ -65,6 +67,38 @@ pub fn key<'a>(keys: &'a [u8], blank: &'a [u8], index: usize) -> &'a [u8]
         &keys[at..at + 32]
     } else {
         blank
+    }
+}
+
+// Copies the key of an index into a row; a missing key is zero.
+pub fn put_key(out: &mut [u8], at: usize, keys: &[u8], index: usize)
+    ensures { λ _. ⌜ now (out .exit) ≡ sets (now (out .entry)) at (keyOf (now (keys .entry)) index) ⌝ }
+{
+    let blank = [0u8; 32];
+    wire::put(out, at, key(keys, &blank, index));
+}
+
+// Whether 32 bytes that are not all zero are handed over.
+pub fn is_mint(mint: &[u8]) -> bool
+    ensures { λ r. ⌜ r ≡ isMint (now (mint .entry)) ⌝ }
+{
+    let blank = [0u8; 32];
+    mint.len() == 32 && !wire::equal(mint, &blank)
+}
+
+// Writes a flag and a mint.
+pub fn put_mint(out: &mut [u8], at: usize, mint: &[u8])
+    ensures { λ _. ⌜ now (out .exit) ≡ sets (now (out .entry)) at (mintField (mintOf (now (mint .entry)))) ⌝ }
+{
+    if out.len() <= at {
+        return;
+    }
+    if is_mint(mint) {
+        wire::put_byte(out, at, 1);
+        wire::put(out, at + 1, mint);
+    } else {
+        let none = [0u8; 33];
+        wire::put(out, at, &none);
     }
 }
 

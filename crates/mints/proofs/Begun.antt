@@ -7,9 +7,9 @@ use mathlib.Core.List.{List, []}
 use Prim.Native.Nat.{ℕ, zero, suc, _+_, _*_, _≤_, _<_}
 use native.Mathlib.Decide.{ℕ-discrete, decLt}
 use native.Mathlib.Omega.{arith}
-use lib.ListN.{length, getD, drop, length-set, length-take, length-drop, length-replicate, getD-replicate, List·getD-eq-default}
+use lib.ListN.{length, getD, drop, length-set, length-take, length-drop, length-replicate}
 use lib.Seq.{ext-getD, getD-take, getD-drop}
-use Rattle.wire.specs.Zeros.{zeros}
+use Rattle.wire.specs.Zeros.{zeros, zeros-at}
 use Rattle.ids.specs.Keys.{Key, zeroKey}
 use Rattle.evidence.specs.Table.{lookup}
 use Rattle.mints.specs.Cells.{accountAt, stateAt, held, firstRow, withState}
@@ -17,14 +17,6 @@ use Rattle.mints.specs.Lay.{Laid, layAt, layKey, layTo, laid}
 use Rattle.mints.proofs.Fields.{account-state, state-here, state-other, length-state}
 use Rattle.mints.proofs.Holding.{Apart, Holds}
 use Rattle.mints.proofs.Laid.{Rows, laid-next}
-
--- zeros are zero wherever one looks
-pub zero-at : (n m : ℕ) → _≡_ {A = ℕ} (getD (zeros n) m 0) 0
-zero-at n m =
-    by-cases
-    (decLt m n)
-    (λ (h : m < n). getD-replicate n m 0 0 h)
-    (λ (h : ¬ (m < n)). List·getD-eq-default (zeros n) 0 {n = m} (simp length-replicate (omega arith)))
 
 zero-account : (n : ℕ) → 32 ≤ n → accountAt (zeros n) 0 ≡ zeroKey
 unfolding zeroKey
@@ -36,7 +28,7 @@ zero-account n h =
     (simp (length-take, length-drop, length-replicate) (omega arith))
     (λ j l.
     let k : j < 32 = omega (arith, length-take 32 (drop (0 * 65) (zeros n))) in
-    getD-take 32 (drop (0 * 65) (zeros n)) j 0 k ∙ getD-drop (0 * 65) (zeros n) j 0 ∙ zero-at n (0 * 65 + j) ∙ sym (zero-at 32 j))
+    getD-take 32 (drop (0 * 65) (zeros n)) j 0 k ∙ getD-drop (0 * 65) (zeros n) j 0 ∙ zeros-at n (0 * 65 + j) ∙ sym (zeros-at 32 j))
 
 lay-wide : (κ : ℕ → Key) (t row : List ℕ) (i : ℕ) → length (layTo κ t row i .row) ≡ length row
 unfolding layTo layKey layAt
@@ -54,9 +46,9 @@ laid-rows κ long size wide zero h r =
       zero-row = account-state (zeros size) 0 1 0 ∙ zero-account size (omega arith);
       apart = λ r q a b e. omega arith;
       first = state-here (zeros size) 0 1 (simp length-replicate (omega arith));
-      none = λ r l. state-other (zeros size) 0 1 r (omega arith) ∙ zero-at size (r * 65 + 64);
+      none = λ r l. state-other (zeros size) 0 1 r (omega arith) ∙ zeros-at size (r * 65 + 64);
       row = λ j m. absurd (omega arith);
-      rest = λ j m. zero-at wide j;
+      rest = λ j m. zeros-at wide j;
     }
 laid-rows κ long size wide (suc i) h r =
     laid-next

@@ -22,7 +22,7 @@ use Rattle.evidence.specs.Loops.{gather-take, noteAll-append}
 use Rattle.mints.specs.Note.{Noted}
 use Rattle.mints.specs.Gather.{rowOf, isPlain, tokenAt, Gathered, gatherAt, gatherTo}
 use Rattle.mints.specs.Inference.{says, moves}
-use Rattle.mints.proofs.Search.{key-length}
+use Rattle.ids.proofs.Keys.{key-length}
 use Rattle.mints.proofs.Pieces.{pieces, moved, records-read, plain-read}
 use Rattle.mints.proofs.Holding.{Apart}
 use Rattle.mints.proofs.Stepped.{pairsTo}

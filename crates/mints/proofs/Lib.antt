@@ -24,4 +24,3 @@ pub mod Prepared
 pub mod Preparing
 pub mod Right
 pub mod Working
-pub mod Known

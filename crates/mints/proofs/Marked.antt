@@ -39,6 +39,10 @@ pub record Marked (n : ℕ) (α : ℕ → Key) (t : Table) (ps : Transfers) (w v
   pub mint : (r : ℕ) → mintAt v r ≡ mintAt w r
   pub state : (r : ℕ) → r < n → stateAt v r ≡ marked (stateAt w r) (opposed (final t) ps (α r))
 
+-- a mark says nothing of whether there is a mint
+pub has-mint : {n : ℕ} {α : ℕ → Key} {t : Table} {ps : Transfers} {w v : List ℕ} → Marked n α t ps w v → (r : ℕ) → r < n → ltb 1 (stateAt v r) ≡ ltb 1 (stateAt w r)
+has-mint {α} {t} {ps} {w} m r k = rw (m .state r k) (marked-mint (stateAt w r) (opposed (final t) ps (α r)))
+
 module _ {n : ℕ} {α : ℕ → Key} {e : Evidence} {ps : Transfers} {t : Table} (p : Apart n α) (s : Settled e ps t) {w : List ℕ} (h : Holds 3 n α w t) where
   by-state : (r : ℕ) → 0 < r → r < n → (x : ℕ) → stateAt w r ≡ x → lookup (final t) (α r) ≡ cond (ltb 1 x) (some (mintAt w r)) none
   unfolding held known
@@ -60,13 +64,10 @@ module _ {n : ℕ} {α : ℕ → Key} {e : Evidence} {ps : Transfers} {t : Table
       (λ z. by-state r (omega arith) k (stateAt w r) refl)
 
   module _ {qs : Transfers} {v : List ℕ} (m : Marked n α t qs w v) where
-    has-mint : (r : ℕ) → r < n → ltb 1 (stateAt v r) ≡ ltb 1 (stateAt w r)
-    has-mint r k = rw (m .state r k) (marked-mint (stateAt w r) (opposed (final t) qs (α r)))
-
     -- two rows differ as their accounts do
     differ-rows : (a b : ℕ) → a < n → b < n → differAt v a b ≡ differ (lookup (final t) (α a)) (lookup (final t) (α b))
     unfolding differAt differ
-    differ-rows a b k l = rw (has-mint a k, has-mint b l, m .mint a, m .mint b, final-row a k, final-row b l) (go (ltb 1 (stateAt w a)) (ltb 1 (stateAt w b)))
+    differ-rows a b k l = rw (has-mint m a k, has-mint m b l, m .mint a, m .mint b, final-row a k, final-row b l) (go (ltb 1 (stateAt w a)) (ltb 1 (stateAt w b)))
       where
         go : (x y : Bool) → cond x (cond y (not (same (mintAt w a) (mintAt w b))) false) false ≡ differ (cond x (some (mintAt w a)) none) (cond y (some (mintAt w b)) none)
         go true true = refl

@@ -6,10 +6,12 @@ use Prim.Native.Nat.{ℕ, _/_, _≤_}
 use native.Mathlib.Omega.{arith}
 use lib.ListN.{length, take, length-map, length-replicate}
 use lib.Seq.{take-all}
+use Rattle.wire.specs.Zeros.{zeros-at}
 use Rattle.ids.specs.Keys.{Key, keyCount, keyOf}
 use Rattle.ids.specs.Which.{programAt}
 use Rattle.pack.specs.Invocation.{Instruction, instructionAt}
 use Rattle.pack.specs.View.{balancesIn}
+use Rattle.pack.proofs.Rows.{balances-length}
 use Rattle.evidence.specs.Evidence.{Evidence, noteAll, recorded}
 use Rattle.evidence.specs.Passes.{Transfers}
 use Rattle.evidence.specs.Gather.{gather}
@@ -18,10 +20,10 @@ use Rattle.mints.specs.Cells.{accountAt}
 use Rattle.mints.specs.Note.{balancesTo}
 use Rattle.mints.specs.Inference.{balanceSays, says, moves, evidenceOf, transfersOf}
 use Rattle.mints.specs.Prepare.{laidOf, begun, gatheredOf}
-use Rattle.mints.proofs.Begun.{zero-at, laid-apart, laid-holds}
+use Rattle.mints.proofs.Begun.{laid-apart, laid-holds}
 use Rattle.mints.proofs.Holding.{Apart}
 use Rattle.mints.proofs.Stepped.{pairsTo}
-use Rattle.mints.proofs.Observed.{Notes, balances-many, balances-noted}
+use Rattle.mints.proofs.Observed.{Notes, balances-noted}
 use Rattle.mints.proofs.Collected.{Collected, instructions, collected}
 use Rattle.mints.proofs.Preparing.{rows-laid, laid-index}
 
@@ -43,7 +45,7 @@ module _ (ks b p o : List ℕ) (few : keyCount ks ≤ 256) (short : length o ≤
   balances =
       subst
       (λ (l : List (ℕ × Key)). Notes (laidOf ks .rows) accounts (balancesTo b (laidOf ks .row) (laidOf ks .table) (length b / 36)) (noteAll [] (gather (balanceSays (keyOf ks)) l)))
-      (take-all (length b / 36) (balancesIn b) (omega (arith, balances-many b)))
+      (take-all (length b / 36) (balancesIn b) (omega (arith, balances-length b)))
       (balances-noted apart (laidOf ks .row) (λ j. laid-index ks few j) b (laidOf ks .table) [] (record { holds = laid-holds (rows-laid ks few) (omega arith); counts = refl }) (length b / 36) (omega arith))
 
   all-read : take (length o) (instructions p o) ≡ instructions p o
@@ -70,8 +72,8 @@ module _ (ks b p o : List ℕ) (few : keyCount ks ≤ 256) (short : length o ≤
       (record {
         notes = balances;
         pairs = refl;
-        sources = λ j. rw (zero-at 1024 j) (apart .some-row);
-        targets = λ j. rw (zero-at 1024 j) (apart .some-row);
+        sources = λ j. rw (zeros-at 1024 j) (apart .some-row);
+        targets = λ j. rw (zeros-at 1024 j) (apart .some-row);
         from-size = length-replicate {A = ℕ} 1024 0;
         to-size = length-replicate {A = ℕ} 1024 0;
       })

@@ -14,7 +14,7 @@ use Rattle.mints.specs.Lay.{laid}
 use Rattle.mints.specs.Note.{noteAt, balancesTo}
 use Rattle.mints.specs.Gather.{gatherTo}
 use Rattle.mints.specs.Prepare.{laidOf, gatheredOf}
-use Rattle.mints.proofs.Search.{key-length}
+use Rattle.ids.proofs.Keys.{key-length}
 use Rattle.mints.proofs.Noting.{one-new}
 use Rattle.mints.proofs.Laid.{Rows}
 use Rattle.mints.proofs.Begun.{laid-rows, row-right}

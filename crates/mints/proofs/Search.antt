@@ -1,17 +1,15 @@
 -- The row search: what each way through it says of the first row with an account.
 -- Assumes nothing.
-use mathlib.Core.Path.{_≡_, refl, sym, _∙_}
+use mathlib.Core.Path.{_≡_, sym, _∙_}
 use mathlib.Core.Bool.{Bool, true, false, cond}
 use mathlib.Core.List.{List}
-use Prim.Native.Nat.{ℕ, zero, suc, _+_, _-_, _*_, _/_, _≤_, _<_}
+use Prim.Native.Nat.{ℕ, zero, suc, _+_, _-_, _*_, _≤_, _<_}
 use native.Mathlib.Numerals.{add-one}
 use native.Mathlib.Omega.{arith}
-use lib.ListN.{length, getD, take, drop, length-take, length-drop}
+use lib.ListN.{length, getD, length-take, length-drop}
 use lib.Seq.{ext-getD, getD-take, getD-drop}
 use lib.Dec.{ltb}
-use borrow.Author.Tests.{ltb-true}
 use Rattle.wire.specs.Same.{same, same-refl, same-not-at}
-use Rattle.ids.specs.Keys.{zeroKey, keyCount, keyOf, account}
 use Rattle.mints.specs.Cells.{accountAt, Fits, firstFrom}
 use Rattle.mints.specs.Gather.{rowOf}
 
@@ -55,25 +53,6 @@ module _ (t k : List ℕ) where
       go : (b : Bool) → firstFrom t k f (suc i) ≤ suc i + f → cond b i (firstFrom t k f (suc i)) ≤ i + suc f
       go true h = omega arith
       go false h = omega arith
-
--- a key has 32 bytes, missing or not
-pub key-length : (ks : List ℕ) (i : ℕ) → length (keyOf ks i) ≡ 32
-unfolding zeroKey
-key-length ks i = go (ltb i (keyCount ks)) refl
-  where
-    go : (b : Bool) → ltb i (keyCount ks) ≡ b → length (cond b (take 32 (drop (i * 33 + 1) ks)) zeroKey) ≡ 32
-    go true e =
-        let h : i < length ks / 33 = ltb-true _ _ e in
-        simp (length-take, length-drop) (omega arith)
-    go false e = refl
-
-pub account-length : (ks accounts : List ℕ) (i : ℕ) → length (account (keyOf ks) accounts i) ≡ 32
-unfolding zeroKey
-account-length ks accounts i = go (ltb i (length accounts))
-  where
-    go : (b : Bool) → length (cond b (keyOf ks (getD accounts i 0)) zeroKey) ≡ 32
-    go true = key-length ks (getD accounts i 0)
-    go false = refl
 
 -- row 0 is whole if any row is
 pub row-fits : (t row accounts : List ℕ) (i : ℕ) → Fits t row → rowOf row accounts i * 65 + 65 ≤ length t

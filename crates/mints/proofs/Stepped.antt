@@ -10,8 +10,7 @@ use native.Mathlib.Decide.{ℕ-discrete}
 use native.Mathlib.Omega.{arith}
 use lib.ListN.{length, length-take, length-drop, getD}
 use Rattle.wire.specs.Same.{same-eq}
-use Rattle.ids.specs.Keys.{Key, zeroKey}
-use Rattle.evidence.specs.Keys.{isZero}
+use Rattle.ids.specs.Keys.{Key, zeroKey, isZero}
 use Rattle.evidence.specs.Table.{Table, add, lookup}
 use Rattle.evidence.specs.Passes.{Transfers, step, pass, length-add}
 use Rattle.evidence.specs.Lookups.{add-here, add-other, step-zero, step-forth, step-back, step-known, step-unknown, step-ambiguous, step-ambiguous-back}

@@ -30,8 +30,8 @@ use Rattle.mints.specs.Bytes.{tableBytes, orZero, mintsOf}
 use Rattle.mints.proofs.Sorting.{spot-bound, sorted-mem, mem-sorted, getD-mem}
 use Rattle.mints.proofs.Holding.{Apart, was}
 use Rattle.mints.proofs.Stepped.{Held}
-use Rattle.mints.proofs.States.{marked-filled, marked-other, marked-mint}
-use Rattle.mints.proofs.Marked.{Marked, final-row}
+use Rattle.mints.proofs.States.{marked-filled, marked-other}
+use Rattle.mints.proofs.Marked.{Marked, has-mint, final-row}
 
 -- the rows before the place of a row do not have a greater account, and the row at the place does
 spot-before : (t : List ℕ) (r : ℕ) (l : List ℕ) (i : ℕ) → i < spotIn t r l → ltKey (accountAt t r) (accountAt t (getD l i 0)) ≡ false
@@ -88,10 +88,6 @@ module _ {n : ℕ} {α : ℕ → Key} {e : Evidence} {ps : Transfers} {t : Table
   account-is : (r : ℕ) → r < n → accountAt v r ≡ α r
   account-is r k = m .account r ∙ h .now .account r k
 
-  -- a mark says nothing of whether there is a mint
-  same-mint : (r : ℕ) → r < n → ltb 1 (stateAt v r) ≡ ltb 1 (stateAt w r)
-  same-mint r k = rw (m .state r k) (marked-mint (stateAt w r) (opposed (final t) ps (α r)))
-
   positive : (r : ℕ) → 1 < stateAt w r → 0 < r
   positive r o = by-cases (ℕ-discrete r 0) (λ z. absurd (omega (arith, ap (λ (q : ℕ). stateAt w q) z ∙ h .now .first))) (λ z. omega arith)
 
@@ -115,7 +111,7 @@ module _ {n : ℕ} {α : ℕ → Key} {e : Evidence} {ps : Transfers} {t : Table
   said r x z k q = h .now .said r z k ∙ rw q
 
   row-right : (r : ℕ) → r < n → 1 < stateAt v r → (lookup t (accountAt v r) ≡ some (mintAt v r)) × (mintAt v r ≢ zeroKey) × (stateAt v r - 2 ≡ markOf (recorded e) ps (final t) (accountAt v r))
-  row-right r k o = go (stateAt w r) refl (ltb-true 1 (stateAt w r) (sym (same-mint r k) ∙ lt-ltb 1 (stateAt v r) o))
+  row-right r k o = go (stateAt w r) refl (ltb-true 1 (stateAt w r) (sym (has-mint m r k) ∙ lt-ltb 1 (stateAt v r) o))
     where
       go : (x : ℕ) → stateAt w r ≡ x → 1 < stateAt w r → (lookup t (accountAt v r) ≡ some (mintAt v r)) × (mintAt v r ≢ zeroKey) × (stateAt v r - 2 ≡ markOf (recorded e) ps (final t) (accountAt v r))
       go zero q i = absurd (omega arith)
@@ -138,7 +134,7 @@ module _ {n : ℕ} {α : ℕ → Key} {e : Evidence} {ps : Transfers} {t : Table
       state r y l f (suc (suc x)) g = (
         r,
         l,
-        ltb-true 1 (stateAt v r) (same-mint r l ∙ lt-ltb 1 (stateAt w r) (omega arith)),
+        ltb-true 1 (stateAt v r) (has-mint m r l ∙ lt-ltb 1 (stateAt w r) (omega arith)),
         account-is r l ∙ f,
         m .mint r ∙ Option·some-injective _ _ (sym (said r x y l g) ∙ rw f q),
       )
@@ -170,7 +166,7 @@ module _ {n : ℕ} {α : ℕ → Key} {e : Evidence} {ps : Transfers} {t : Table
   -- the mint of a row is that of its account
   pub mint-right : (r : ℕ) → r < n → mintOf v zeroKey r ≡ orZero (mintIn (mintTable (recorded e) ps t) (α r))
   unfolding mintOf orZero
-  mint-right r k = rw (table-mint (recorded e) ps t (α r), final-row p s (h .now) r k, same-mint r k, m .mint r) (go (ltb 1 (stateAt w r)))
+  mint-right r k = rw (table-mint (recorded e) ps t (α r), final-row p s (h .now) r k, has-mint m r k, m .mint r) (go (ltb 1 (stateAt w r)))
     where
       go : (b : Bool) → cond b (mintAt w r) zeroKey ≡ orZero (cond b (some (mintAt w r)) none)
       go true = refl

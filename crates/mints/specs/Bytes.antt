@@ -1,11 +1,8 @@
 -- The mint table as bytes, and the mint of each key index.
 -- Assumes nothing.
-use Prim.Native.Nat.{ℕ, zero, suc, _*_, _/_}
-use mathlib.Core.Bool.{cond}
+use Prim.Native.Nat.{ℕ, zero, suc}
 use mathlib.Core.Option.{Option, none, some}
 use mathlib.Core.List.{List, [], _∷_, _++_}
-use lib.Dec.{ltb}
-use lib.ListN.{length, take, drop}
 use Rattle.ids.specs.Keys.{Key, zeroKey}
 use Rattle.evidence.specs.MintTable.{MintRow, mintIn}
 
@@ -26,7 +23,3 @@ orZero (some m) = m
 unfoldable pub mintsOf : List MintRow → (ℕ → Key) → ℕ → List ℕ
 mintsOf l κ zero = []
 mintsOf l κ (suc i) = mintsOf l κ i ++ orZero (mintIn l (κ i))
-
--- the mint of key index i among mints of 32 bytes each, or the stand-in z past their end
-unfoldable pub mintAmong : List ℕ → Key → ℕ → Key
-mintAmong known z i = cond (ltb i (length known / 32)) (take 32 (drop (i * 32) known)) z

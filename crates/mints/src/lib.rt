@@ -8,7 +8,6 @@ ghost use lib.ListN.{length, take};
 ghost use lib.Seq.{sets};
 ghost use Rattle.wire.specs.Zeros.{zeros};
 ghost use Rattle.ids.specs.Keys.{keyCount, keyOf};
-ghost use Rattle.mints.specs.Bytes.{mintAmong};
 ghost use Rattle.mints.specs.Cells.{Fits};
 ghost use Rattle.mints.specs.Prepare.{laidOf, gatheredOf};
 ghost use Rattle.mints.specs.Order.{sortTo, rowsBytes, mintsTo};
@@ -157,16 +156,4 @@ pub fn infer(
         rows,
         known,
     )
-}
-
-// The final mint of a key index: a part of what `infer` left in `known`, or the stand-in.
-pub fn mint<'a>(known: &'a [u8], blank: &'a [u8], index: usize) -> &'a [u8]
-    ensures { λ r. ⌜ now r ≡ mintAmong (now (known .entry)) (now (blank .entry)) index ⌝ }
-{
-    if index < known.len() / 32 {
-        let at = index * 32;
-        &known[at..at + 32]
-    } else {
-        blank
-    }
 }

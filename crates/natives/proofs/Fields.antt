@@ -10,7 +10,7 @@ use Rattle.wire.specs.Sets.{sets-next}
 use Rattle.wire.specs.Le.{leBytes}
 use Rattle.wire.proofs.Laws.{leBytes-length}
 use Rattle.ids.specs.Keys.{Key, zeroKey, keyOf}
-use Rattle.token.proofs.Fields.{key-length}
+use Rattle.ids.proofs.Keys.{key-length}
 use Rattle.natives.specs.Natives.{given}
 use Rattle.natives.specs.Numbers.{valueOf}
 use Rattle.natives.specs.Rows.{fieldsOf, rowsOf}

@@ -1,13 +1,13 @@
 -- An action in numbers is the Rust's action: the accounts that it names are there, and only the acted account's mint is looked at.
 -- Assumes nothing.
 use mathlib.Core.Path.{_≡_, refl, sym, ap, subst, _∙_}
-use mathlib.Core.Bool.{Bool, true, false, cond, _&&_, not, and-false}
+use mathlib.Core.Bool.{Bool, true, false, cond, _&&_, and-false}
 use mathlib.Core.List.{List, [], _∷_}
 use mathlib.Core.Option.{Option, none, some}
-use Prim.Native.Nat.{ℕ, suc, _+_, _≤_, _<_}
+use Prim.Native.Nat.{ℕ, _+_, _≤_, _<_}
 use native.Mathlib.Numerals.{add-one}
 use native.Mathlib.Omega.{arith}
-use lib.Dec.{ltb, leb, eqb}
+use lib.Dec.{leb, eqb}
 use lib.ListN.{length, getD, drop}
 use lib.Seq.{drop-cons, drop-length}
 use borrow.Author.Tests.{lt-ltb, le-ltb, leb-true}
@@ -15,13 +15,12 @@ use Rattle.wire.specs.Same.{same, same-true}
 use Rattle.wire.specs.Below.{and-right}
 use Rattle.ids.specs.declared.Id.{Id}
 use Rattle.ids.specs.Ids.{ids, idAt}
-use Rattle.ids.specs.Keys.{Key, zeroKey, account}
+use Rattle.ids.specs.Keys.{Key, zeroKey}
 use Rattle.token.specs.Programs.{isToken}
 use Rattle.token.specs.Published.{starts}
-use Rattle.token.specs.Transfers.{isZero}
-use Rattle.token.specs.Rows.{mintOf}
+use Rattle.ids.specs.Mints.{isMint, mintOf}
 use Rattle.token.proofs.Laws.{there}
-use Rattle.natives.specs.Natives.{NativeAction, isSystem, funds, syncs, closes, asked, allBelow, wrapped, counted, nativeAction}
+use Rattle.natives.specs.Natives.{isSystem, funds, syncs, closes, asked, allBelow, wrapped, counted, nativeAction}
 use Rattle.natives.specs.Numbers.{valueOf, formOf, heldBy, actedOf, actionOf}
 use Rattle.natives.specs.declared.Native.{Native}
 use Rattle.natives.specs.declared.Native.the-variants.{Nothing, Fund, Sync, Close}
@@ -80,14 +79,14 @@ native-is κ count id accounts d μ = rw (← form-value κ id accounts d) (coun
 
 -- a mint that is handed over as bytes
 wsol-known : mintOf (idAt 2) ≡ some (idAt 2)
-unfolding mintOf isZero zeroKey ids same
+unfolding mintOf isMint zeroKey ids same
 wsol-known = refl
 
 pub wrapped-mint : (m : List ℕ) → wrapped (mintOf m) ≡ same (idAt 2) m
 unfolding wrapped mintOf
-wrapped-mint m = go (same (idAt 2) m) refl (eqb (length m) 32 && not (isZero m)) refl
+wrapped-mint m = go (same (idAt 2) m) refl (isMint m) refl
   where
-    go : (b : Bool) → same (idAt 2) m ≡ b → (t : Bool) → (eqb (length m) 32 && not (isZero m)) ≡ t → wrapped (mintOf m) ≡ same (idAt 2) m
+    go : (b : Bool) → same (idAt 2) m ≡ b → (t : Bool) → isMint m ≡ t → wrapped (mintOf m) ≡ same (idAt 2) m
     go true e t f = subst (λ (k : Key). wrapped (mintOf k) ≡ same (idAt 2) k) (same-true (idAt 2) m e) (rw wsol-known)
     go false e true f = rw f
     go false e false f = rw (f, e)

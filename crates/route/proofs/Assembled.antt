@@ -8,19 +8,16 @@ use Prim.Native.Nat.{ℕ, suc, _+_, _*_, _≤_, _<_}
 use native.Mathlib.Nat.{zero-add, add-assoc, zero-mul, one-mul}
 use native.Mathlib.Omega.{arith}
 use borrow.Author.Tests.{lt-ltb}
-use lib.Dec.{ltb}
-use lib.ListN.{length, getD, take}
+use lib.ListN.{length, getD}
 use Rattle.ids.specs.Keys.{Key}
 use Rattle.pack.specs.Invocation.{Instruction, Position, positionAt}
 use Rattle.evidence.specs.MintTable.{MintRow}
-use Rattle.subtrees.specs.Subtrees.{tab, place, positions, bits, endOf, insideOf, insidesOf, Subtrees}
+use Rattle.subtrees.specs.Subtrees.{tab, place, positions, bits, insideOf, Subtrees}
 use Rattle.subtrees.proofs.Arrays.{tab-length, tab-at, tab-same, positions-length}
 use Rattle.subtrees.proofs.Claims.{end-at, inside-at, insides-same}
 use Rattle.route.specs.Arrays.{itemAt, ownFor, ownAt, ownBits, bitsAt, rowAt}
 use Rattle.route.specs.Known.{present, rowIf, numberAt}
 use Rattle.route.specs.Lay.{rowsOf}
-use Rattle.route.specs.Mints.{programOf}
-use Rattle.route.specs.Row.{invocationRow}
 use Rattle.route.specs.Transfers.{transferOf, transferRows}
 use Rattle.route.specs.Legs.{legOf, legRows}
 use Rattle.route.specs.Tables.{item, ownOf, flagsOf, legNumber, invocationAt}

@@ -1,33 +1,31 @@
 -- What `flatten`, `infer` and `finish` promise of a pack with a good verdict, put together.
 -- Assumes nothing.
-use mathlib.Core.Path.{_≡_, refl, sym, ap, _∙_}
+use mathlib.Core.Path.{_≡_, sym, ap, _∙_}
 use mathlib.Core.Option.{Option, none, some}
 use mathlib.Core.List.{List, [], map}
-use Prim.Native.Nat.{ℕ, _-_, _+_, _*_, _/_, _%_, _≤_, _<_}
+use Prim.Native.Nat.{ℕ, _-_, _/_, _%_, _≤_}
 use native.Mathlib.Nat.{sub-zero}
 use native.Mathlib.Omega.{arith}
 use borrow.Author.Tests.{eqb-true}
-use lib.ListN.{length, getD, take, drop, length-map, length-replicate}
+use lib.ListN.{length, getD, take, drop, length-replicate}
 use lib.Seq.{sets, length-sets, take-all, length-take-le, getD-take}
 use Rattle.wire.specs.Below.{and-left}
 use Rattle.wire.specs.Zeros.{zeros}
 use Rattle.ids.specs.Keys.{keyOf, keyCount}
-use Rattle.ids.specs.Which.{programAt}
-use Rattle.pack.specs.Invocation.{Instruction, Position, Invocation, instructionAt, positionAt}
+use Rattle.pack.specs.Invocation.{Invocation, instructionAt, positionAt}
 use Rattle.pack.specs.Sections.{sectionOf}
 use Rattle.pack.specs.Items.{keysFill, rowsFill, rows}
-use Rattle.pack.specs.View.{viewOf, balancesIn, poolsIn}
+use Rattle.pack.specs.View.{viewOf, poolsIn}
 use Rattle.pack.specs.Flatten.{flatten}
 use Rattle.pack.specs.Layout.{Flattened, atOf, layout}
 use Rattle.pack.specs.Verdict.{verdict, numberOf}
 use Rattle.pack.proofs.Good.{passed}
 use Rattle.pack.proofs.Entries.{count-is, entry}
-use Rattle.evidence.specs.MintTable.{MintRow, Answer}
-use Rattle.mints.specs.Inference.{balanceSays, says, moves, evidenceOf, transfersOf, inferred, inferredIn, answerOf, rowsOf as rowsIn, finalOf}
+use Rattle.evidence.specs.MintTable.{Answer}
+use Rattle.mints.specs.Inference.{inferredIn, answerOf, rowsOf as rowsIn, finalOf}
 use Rattle.mints.specs.Bytes.{tableBytes, mintsOf as finalMints}
 use Rattle.mints.specs.declared.Inferred.{Inferred}
 use Rattle.subtrees.specs.Subtrees.{tab, positions}
-use Rattle.subtrees.proofs.Arrays.{tab-length}
 use Rattle.swaps.specs.Row.{poolsOf}
 use Rattle.route.specs.Arrays.{itemAt}
 use Rattle.route.specs.Tables.{positionsOf, instructionsOf, tablesWith, tablesIf, tables}
@@ -76,7 +74,7 @@ module _ (p : List ℕ) (n : ℕ) (at outer inner height : List ℕ) (e : number
   offsets = is-tab 0 (take n at) _ n (length-take-le n at (omega (arith, few, at-length))) (λ i h. getD-take n at i 0 h)
 
   pub inferred-is : inferredIn (take 8448 (sectionOf p 0)) (sectionOf p 1) p (take 1024 (take n at)) ≡ mintsIn p
-  unfolding viewOf inferred evidenceOf transfersOf balanceSays says moves
+  unfolding viewOf
   inferred-is =
       rw
       (keys-all, take-all 1024 (take n at) (omega (arith, few, at-length, length-take-le n at (omega (arith, few, at-length)))), offsets, map-tab (instructionAt p) (λ i. getD at i 0) 0 n, instructions-are)

@@ -1,19 +1,19 @@
 -- What the steps of `finish` promise, put together.
 -- Assumes nothing.
-use mathlib.Core.Path.{_≡_, refl, sym, _∙_}
-use mathlib.Core.Bool.{Bool, true, false, cond}
-use mathlib.Core.List.{List, [], _∷_, _++_}
+use mathlib.Core.Path.{_≡_, _∙_}
+use mathlib.Core.Bool.{Bool, true, false}
+use mathlib.Core.List.{List, _++_}
 use Prim.Native.Nat.{ℕ, zero, suc, _-_, _≤_}
 use native.Mathlib.Omega.{arith}
 use lib.ListN.{length, getD}
 use lib.Seq.{sets}
-use Rattle.wire.specs.Zeros.{zeros}
+use Rattle.wire.specs.Zeros.{zeros, zeros-at}
 use Rattle.pack.specs.Invocation.{Position}
 use Rattle.pack.specs.Sections.{sectionOf}
 use Rattle.evidence.specs.MintTable.{MintRow}
 use Rattle.subtrees.specs.Subtrees.{tab, positions, taken, filled, bits, hasTransfer, hasSwap, within, insideOf, insidesOf, Subtrees}
 use Rattle.subtrees.specs.Blocks.{someIn}
-use Rattle.subtrees.proofs.Arrays.{taken-all, zeros-at}
+use Rattle.subtrees.proofs.Arrays.{taken-all}
 use Rattle.swaps.specs.Row.{poolsOf}
 use Rattle.route.specs.declared.Answer.{Answer}
 use Rattle.route.specs.Arrays.{itemAt, ownAt, rowAt}

@@ -2,28 +2,24 @@
 -- Assumes nothing.
 use mathlib.Core.Path.{_≡_, refl, sym, ap, _∙_}
 use mathlib.Core.Logic.{_≢_, by-cases, ⊎-elim}
-use mathlib.Core.Bool.{Bool, true, false, cond}
+use mathlib.Core.Bool.{false}
 use mathlib.Core.Option.{Option, none, some, Option·none-ne-some, Option·some-injective}
 use mathlib.Core.List.{List, [], _∷_, _++_, map, append-assoc, List-discrete, List·Memᴰ, List·Memᴰ·head, List·Memᴰ·tail}
 use Prim.Native.Nat.{ℕ, zero, suc, _+_, _*_, _≤_, _<_}
-use native.Mathlib.Nat.{suc-mul, zero-mul, zero-add, eq-or-lt-of-le, le-of-suc-le-suc}
+use native.Mathlib.Nat.{suc-mul, zero-mul, eq-or-lt-of-le, le-of-suc-le-suc}
 use native.Mathlib.Decide.{ℕ-discrete, decLt}
 use native.Mathlib.Omega.{arith}
 use borrow.Author.Tests.{eq-eqb, le-ltb}
-use Rattle.subtrees.proofs.Arrays.{zeros-at}
-use lib.Dec.{eqb}
-use lib.ListN.{length, getD, take, drop, length-append, length-take, length-drop, length-replicate}
-use lib.Seq.{sets, sets-eq, length-sets, take-at, drop-at, take-all, drop-append-le, take-append-le, ext-getD, getD-take, getD-drop}
+use lib.ListN.{length, drop, length-append, length-take, length-drop, length-replicate}
+use lib.Seq.{sets, sets-eq, length-sets, take-at, drop-at, ext-getD, getD-take, getD-drop}
 use Rattle.wire.specs.Same.{same, same-eq, same-ne}
 use Rattle.wire.specs.Sets.{sets-after}
-use Rattle.wire.specs.Zeros.{zeros}
+use Rattle.wire.specs.Zeros.{zeros, zeros-at}
 use Rattle.ids.specs.Keys.{Key, zeroKey, keyOf, keyCount}
-use Rattle.token.specs.Rows.{mintOf}
-use Rattle.token.specs.Transfers.{isZero}
+use Rattle.ids.specs.Mints.{isMint, mintOf}
 use Rattle.evidence.specs.MintTable.{MintRow, mintIn}
-use Rattle.mints.specs.Bytes.{tableBytes, orZero, mintsOf}
+use Rattle.mints.specs.Bytes.{mintRow, tableBytes, orZero, mintsOf}
 use Rattle.route.specs.Known.{mintAt, Holds}
-use Rattle.route.specs.Tables.{mintRow}
 use Rattle.route.proofs.OrderTable.{flat}
 
 -- the bytes of table 0's rows, one after the other
@@ -51,7 +47,7 @@ mint-row (r ∷ l) a m e =
 module _ {l : List MintRow} (s : Sound l) where
   -- as 32 bytes and back
   pub told : (a : Key) → mintOf (orZero (mintIn l a)) ≡ mintIn l a
-  unfolding mintOf orZero isZero zeroKey same
+  unfolding mintOf isMint orZero zeroKey same
   told a = go (mintIn l a) refl
     where
       go : (o : Option Key) → mintIn l a ≡ o → mintOf (orZero o) ≡ o

@@ -1,28 +1,19 @@
 -- What is written of a leg that is known by its index bytes.
 -- Assumes nothing.
-use mathlib.Core.Path.{_≡_, refl, _∙_}
+use mathlib.Core.Path.{_≡_, refl}
 use mathlib.Core.Bool.{cond}
 use mathlib.Core.List.{List}
-use mathlib.Core.Option.{Option, none, some}
+use mathlib.Core.Option.{Option, none}
 use Prim.Native.Nat.{ℕ}
 use Rattle.ids.specs.Keys.{Key, keyOf}
 use Rattle.ids.specs.declared.Id.{Id}
 use Rattle.ids.specs.declared.Id.the-variants.{SplToken, Token2022, WrappedSol, ComputeBudget, AssociatedToken, Memo, PumpFun, LaunchLab, PumpSwap, Clmm, Cpmm, AmmV4, Orca, Dlmm, System, Other, Unresolved}
 use Rattle.pack.specs.Invocation.{Instruction}
-use Rattle.token.specs.Rows.{mintOf}
-use Rattle.token.specs.Transfers.{isZero}
 use Rattle.swaps.specs.Leg.{valued}
-use Rattle.swaps.specs.Row.{isMint, known}
 use Rattle.swaps.specs.Swap.{byProgram, swap}
 use Rattle.evidence.specs.MintTable.{MintRow, mintIn}
 use Rattle.route.specs.Legs.{legOf}
-use Rattle.route.specs.Mints.{programOf}
-use Rattle.route.specs.Program.{skips}
-
--- a mint that is handed in as bytes means the same to a transfer's row and to a leg's
-pub known-mint : (m : List ℕ) → known m ≡ mintOf m
-unfolding mintOf isMint isZero
-known-mint m = refl
+use Rattle.route.specs.Program.{programOf, skips}
 
 -- a program that routes pass over has no leg anyway
 skipped : (names : List ℕ) (κ : ℕ → Key) (id : Id) (accounts bytes : List ℕ) (μ : Key → Option Key) (pools : List Key)

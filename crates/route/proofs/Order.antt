@@ -1,37 +1,28 @@
 -- Order does not matter: two packs with the same evidence, in any order, and what the call leaves of them in table 0.
 -- Assumes nothing.
-use mathlib.Core.Path.{_≡_, refl, sym, ap, _∙_, subst}
+use mathlib.Core.Path.{_≡_, refl, sym, ap, _∙_}
 use mathlib.Core.Logic.{_≢_, _↔_, inl, inr}
-use mathlib.Core.List.{List, [], map, List·Memᴰ, List·Memᴰ·head, List·Memᴰ·tail}
+use mathlib.Core.List.{List, [], map, List·Memᴰ}
 use mathlib.Core.Option.{some}
 use Prim.Native.Nat.{ℕ, _*_, _/_, _≤_, _<_}
 use native.Mathlib.Omega.{arith}
 use lib.ListN.{length, getD, take, drop, length-map}
 use Rattle.ids.specs.Keys.{Key}
-use Rattle.evidence.specs.Keys.{Below, below-irrefl}
 use Rattle.evidence.specs.Evidence.{Free, One}
 use Rattle.evidence.specs.Chains.{Chain}
-use Rattle.evidence.specs.Ascending.{Ascending, asc-cons}
+use Rattle.evidence.specs.Ascending.{Ascending, ascending-once}
 use Rattle.evidence.specs.Independence.{Apart, Unjoined, unjoined-apart}
 use Rattle.evidence.specs.MintTable.{Answer, rowAccounts}
 use Rattle.evidence.specs.Order.{row-right, row-reached, row-order, row-kept, row-sure, Alike}
+use Rattle.mints.specs.Bytes.{mintRow}
 use Rattle.pack.specs.Items.{rows}
+use Rattle.pack.proofs.Rows.{row-at}
 use Rattle.route.specs.Lay.{written}
-use Rattle.route.specs.Tables.{mintRow}
 use Rattle.route.specs.Route.{Lent, Routed, refused, accepted, route}
 use Rattle.route.specs.Order.{evidenceIn, plainsIn, mintsIn, SameEvidence, mintsLeft, Succeeds, ClearsSeven, NoRoom}
-use Rattle.route.proofs.OrderTable.{row-at, mints-rows, mints-written}
+use Rattle.route.proofs.OrderTable.{mints-rows, mints-written}
 use Rattle.route.proofs.OrderMints.{made, sized, rows-room, tables-alike}
 use Rattle.route.proofs.OrderWays.{Ways, early, crowded, later, good, ways}
-
--- of an ascending list two members with one key are one
-ascending-once : {A : Type 0} {key : A → Key} {t : List A} {x y : A} → Ascending key t → List·Memᴰ x t → List·Memᴰ y t → key x ≡ key y → x ≡ y
-ascending-once (asc-cons f s) (List·Memᴰ·head d) (List·Memᴰ·head e) k = d ∙ sym e
-ascending-once {A} {key} {x} {y} (asc-cons {r} f s) (List·Memᴰ·head d) (List·Memᴰ·tail j) k =
-    absurd (below-irrefl (subst (λ (a : Key). Below a (key y)) (sym (ap key d) ∙ k) (f y j)))
-ascending-once {A} {key} {x} {y} (asc-cons {r} f s) (List·Memᴰ·tail i) (List·Memᴰ·head e) k =
-    absurd (below-irrefl (subst (λ (a : Key). Below a (key x)) (sym (ap key e) ∙ sym k) (f x i)))
-ascending-once (asc-cons f s) (List·Memᴰ·tail i) (List·Memᴰ·tail j) k = ascending-once s i j k
 
 -- table 0 after a call that is not refused: the rows of the pack's mint table, and they are read back from the bytes
 pub record Left (p : List ℕ) (l : Lent) (r : Routed) : Type 0 where
@@ -108,7 +99,7 @@ module _ (names p : List ℕ) (l : Lent) where
       → take 65 (drop (k * 65) (route names p l .mints)) ≡ getD (map mintRow (left e .table .rows)) k []
   left-row e k h =
       let t = left e in
-      sym (row-at 65 (route names p l .answer .mints) k (route names p l .mints) h) ∙ ap (λ (x : List (List ℕ)). getD x k []) (t .items)
+      sym (row-at 65 (route names p l .answer .mints) (route names p l .mints) k [] h) ∙ ap (λ (x : List (List ℕ)). getD x k []) (t .items)
 
   -- its rows ascend by account
   pub left-ascends : Succeeds (route names p l) → Ascending (λ r. r .0) (mintsLeft (route names p l))

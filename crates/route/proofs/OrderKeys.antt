@@ -12,15 +12,16 @@ use lib.ListN.{length, getD, take, drop}
 use borrow.Author.Tests.{ltb-true}
 use Rattle.ids.specs.declared.Id.{Id}
 use Rattle.ids.specs.Keys.{Key, zeroKey, keyCount, keyOf, account}
+use Rattle.ids.specs.Which.{programAt}
 use Rattle.pack.specs.Invocation.{Instruction}
 use Rattle.token.specs.Tokens.{initialises, plainTransfer, checkedTransfer, feeTransfer}
 use Rattle.token.specs.Records.{bothEnds, records, plain}
-use Rattle.token.proofs.Fields.{key-length}
+use Rattle.ids.proofs.Keys.{key-length}
 use Rattle.evidence.specs.Table.{Row}
 use Rattle.evidence.specs.Gather.{gather, gather-mem}
 use Rattle.evidence.specs.Bound.{Among}
+use Rattle.mints.specs.Inference.{balanceSays, says, moves, evidenceOf, transfersOf}
 use Rattle.subtrees.specs.Subtrees.{tab}
-use Rattle.route.specs.Mints.{recordsOf, plainOf, balanceSays, evidenceOf, plainsOf}
 
 -- a member of a list that a test lets stand
 if-mem : {A : Type 0} {x : A} {l : List A} (b : Bool) → List·Memᴰ x (cond b l []) → List·Memᴰ x l
@@ -80,22 +81,24 @@ module _ {κ : ℕ → Key} {P : Key → Type 0} (h : EveryKey κ P) where
       one-holds (account κ accounts 0, account κ accounts 1) (account-holds accounts 0, account-holds accounts 1)
       (if-mem (plainTransfer id (length accounts) d) i)
 
--- over a key section
-module _ (ks : List ℕ) {P : Key → Type 0} (h : EveryKey (keyOf ks) P) where
+-- over all instructions, ι giving the program of an index
+module _ {κ : ℕ → Key} (ι : ℕ → Id) {P : Key → Type 0} (h : EveryKey κ P) where
   -- it holds of both ends of every plain transfer
-  pub plains-hold : (xs : List Instruction) {y : Row} → List·Memᴰ y (plainsOf ks xs) → P (y .0) × P (y .1)
+  pub plains-hold : (xs : List Instruction) {y : Row} → List·Memᴰ y (transfersOf κ ι xs) → P (y .0) × P (y .1)
+  unfolding transfersOf moves
   plains-hold xs i =
-      let x = gather-mem (plainOf ks) xs i in
+      let x = gather-mem (moves κ ι) xs i in
       plain-holds h _ (x .0 .accounts) (x .0 .bytes) (x .2)
 
   -- and of the account of every piece of evidence, and of its mint if it holds of the balance rows' mints
-  pub evidence-holds : (balances : List (ℕ × Key)) (xs : List Instruction) {y : Row} → List·Memᴰ y (evidenceOf ks balances xs)
+  pub evidence-holds : (balances : List (ℕ × Key)) (xs : List Instruction) {y : Row} → List·Memᴰ y (evidenceOf κ ι balances xs)
       → P (y .0) × (((b : ℕ × Key) → List·Memᴰ b balances → P (b .1)) → P (y .1))
-  evidence-holds balances xs {y} i = ⊎-elim (λ j. told j) (λ j. recorded j) (List·Memᴰ·append-cases (gather (balanceSays ks) balances) i)
+  unfolding evidenceOf balanceSays says
+  evidence-holds balances xs {y} i = ⊎-elim (λ j. told j) (λ j. recorded j) (List·Memᴰ·append-cases (gather (balanceSays κ) balances) i)
     where
-      told : List·Memᴰ y (gather (balanceSays ks) balances) → P (y .0) × (((b : ℕ × Key) → List·Memᴰ b balances → P (b .1)) → P (y .1))
+      told : List·Memᴰ y (gather (balanceSays κ) balances) → P (y .0) × (((b : ℕ × Key) → List·Memᴰ b balances → P (b .1)) → P (y .1))
       told j =
-          let b = gather-mem (balanceSays ks) balances j in
+          let b = gather-mem (balanceSays κ) balances j in
           ⊎-elim
           (λ e.
           subst
@@ -105,9 +108,9 @@ module _ (ks : List ℕ) {P : Key → Type 0} (h : EveryKey (keyOf ks) P) where
           (λ k. absurd (List·Memᴰ·not-nil k))
           (List·Memᴰ·cases-cons (b .2))
 
-      recorded : List·Memᴰ y (gather (recordsOf ks) xs) → P (y .0) × (((b : ℕ × Key) → List·Memᴰ b balances → P (b .1)) → P (y .1))
+      recorded : List·Memᴰ y (gather (says κ ι) xs) → P (y .0) × (((b : ℕ × Key) → List·Memᴰ b balances → P (b .1)) → P (y .1))
       recorded j =
-          let x = gather-mem (recordsOf ks) xs j in
+          let x = gather-mem (says κ ι) xs j in
           let g = records-hold h _ (x .0 .accounts) (x .0 .bytes) (x .2) in
           (g .0, λ w. g .1)
 
@@ -124,12 +127,12 @@ tab-mem f (suc n) k (suc i) h =
     List·Memᴰ·tail (Memᴰ·cast (ap f e) (tab-mem f n (suc k) i (omega arith)))
 
 -- an account that is not zero is one of the keys
-pub among : (ks : List ℕ) (balances : List (ℕ × Key)) (xs : List Instruction) → Among (keysOf ks) (evidenceOf ks balances xs) (plainsOf ks xs)
+pub among : (ks : List ℕ) (balances : List (ℕ × Key)) (xs : List Instruction) → Among (keysOf ks) (evidenceOf (keyOf ks) (programAt ks) balances xs) (transfersOf (keyOf ks) (programAt ks) xs)
 among ks balances xs =
     record {
-      evidence = λ i. (evidence-holds ks listed balances xs i) .0;
-      source = λ i. (plains-hold ks listed xs i) .0;
-      target = λ i. (plains-hold ks listed xs i) .1;
+      evidence = λ i. (evidence-holds (programAt ks) listed balances xs i) .0;
+      source = λ i. (plains-hold (programAt ks) listed xs i) .0;
+      target = λ i. (plains-hold (programAt ks) listed xs i) .1;
     }
   where
     Listed : Key → Type 0

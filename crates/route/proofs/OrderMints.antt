@@ -1,25 +1,22 @@
 -- The mint table of a pack: there always is one, its keys have 32 bytes, and it does not depend on the order of the evidence.
 -- Assumes nothing.
-use mathlib.Core.Path.{_≡_, refl, subst}
-use mathlib.Core.Bool.{Bool, true, false, cond, not}
+use mathlib.Core.Path.{_≡_, subst}
 use mathlib.Core.List.{List, List·Memᴰ, List·Memᴰ·head, List·Memᴰ·tail, List·Memᴰ·not-nil, Memᴰ·of-map, Memᴰ·cast}
 use mathlib.Core.Option.{some}
-use Prim.Native.Nat.{ℕ, zero, suc, _*_, _/_, _≤_, _<_}
+use Prim.Native.Nat.{ℕ, zero, suc, _*_, _/_, _≤_}
 use native.Mathlib.Nat.{suc-mul}
 use native.Mathlib.Omega.{arith}
-use lib.Dec.{ltb}
 use lib.ListN.{length, drop, length-map, length-drop}
 use lib.Seq.{length-take-le}
-use borrow.Author.Tests.{ltb-false}
 use Rattle.wire.specs.Le.{le}
 use Rattle.ids.specs.Keys.{Key, keyCount, keyOf}
-use Rattle.pack.specs.Sections.{marked, ordered, sectionOf}
-use Rattle.pack.specs.Items.{rows, keysFill, rowsFill, outersWhole, groupsWhole}
+use Rattle.ids.specs.Which.{programAt}
+use Rattle.pack.specs.Sections.{sectionOf}
+use Rattle.pack.specs.Items.{rows}
 use Rattle.pack.specs.View.{balancesIn, viewOf}
-use Rattle.pack.specs.Flatten.{flatten}
 use Rattle.pack.specs.Verdict.{verdict, numberOf}
-use Rattle.pack.specs.declared.Verdict.the-variants.{Good, Mark, Starts, Section, Keys, Invocations}
 use Rattle.pack.proofs.Sizes.{keys-length}
+use Rattle.pack.proofs.Good.{passed}
 use Rattle.evidence.specs.Table.{SameMembers}
 use Rattle.evidence.specs.Evidence.{Evidence}
 use Rattle.evidence.specs.Passes.{Transfers, forth, back, Joined, joined}
@@ -31,52 +28,26 @@ use Rattle.evidence.specs.Final.{final-sorted, final-gives}
 use Rattle.evidence.specs.Gather.{gather-same, append-same}
 use Rattle.evidence.specs.MintTable.{Answer, mintTable}
 use Rattle.evidence.specs.Order.{Made, mints-made, answered-256, row-right, Alike, alike}
-use Rattle.route.specs.Mints.{balanceSays, recordsOf, plainOf, evidenceOf, plainsOf}
+use Rattle.mints.specs.Inference.{balanceSays, says, moves, evidenceOf, transfersOf, inferred}
+use Rattle.subtrees.proofs.Arrays.{tab-length}
 use Rattle.route.specs.Order.{instructionsIn, evidenceIn, plainsIn, mintsIn, SameEvidence}
-use Rattle.route.proofs.Rows.{tab-length}
 use Rattle.route.proofs.OrderKeys.{plains-hold, evidence-holds, among, Wide, wide}
 use Rattle.route.proofs.OrderTable.{Sized}
 
--- where all checks are passed, that of the keys is
-keys-passed : (a b c d e f g k n : Bool)
-    → numberOf (cond a Mark (cond b Starts (cond c (Section 0) (cond d (Section 1) (cond e (Section 2) (cond f (Section 3) (cond g (Section 4) (cond k Keys (cond n Invocations Good))))))))) ≡ 0
-    → k ≡ false
-keys-passed true b c d e f g k n h = absurd (omega arith)
-keys-passed false true c d e f g k n h = absurd (omega arith)
-keys-passed false false true d e f g k n h = absurd (omega arith)
-keys-passed false false false true e f g k n h = absurd (omega arith)
-keys-passed false false false false true f g k n h = absurd (omega arith)
-keys-passed false false false false false true g k n h = absurd (omega arith)
-keys-passed false false false false false false true k n h = absurd (omega arith)
-keys-passed false false false false false false false true n h = absurd (omega arith)
-keys-passed false false false false false false false false n h = refl
-
 -- a pack that is not refused has at most 256 keys
 pub few-keys : (p : List ℕ) → numberOf (verdict p) ≡ 0 → keyCount (sectionOf p 0) ≤ 256
-unfolding verdict
-few-keys p e =
-    let k =
-    keys-passed
-    (not (marked p))
-    (not (ordered p))
-    (not (keysFill (sectionOf p 0)))
-    (not (rowsFill 36 (sectionOf p 1)))
-    (not (outersWhole (sectionOf p 2)))
-    (not (groupsWhole (sectionOf p 3)))
-    (not (rowsFill 32 (sectionOf p 4)))
-    (ltb 256 (length (viewOf p .keys)))
-    (ltb 1024 (length (flatten (viewOf p))))
-    e in
-    omega (arith, keys-length p, ltb-false 256 (length (viewOf p .keys)) k)
+few-keys p e = omega (arith, keys-length p, passed p e .few-keys)
 
 -- such a pack has a mint table, after at most 256 passes
 pub answered : (p : List ℕ) → numberOf (verdict p) ≡ 0 → (x : Answer) × (mintsIn p ≡ some x) × (x .room ≤ 256) × (x .passes ≤ 256)
+unfolding inferred
 answered p e =
     answered-256
     (among (sectionOf p 0) (viewOf p .balances) (instructionsIn p))
     (rw (tab-length (keyOf (sectionOf p 0)) 0 (keyCount (sectionOf p 0))) (few-keys p e))
 
 pub made : (p : List ℕ) {x : Answer} → mintsIn p ≡ some x → Made (evidenceIn p) (plainsIn p) x
+unfolding inferred
 made p q = mints-made 512 (evidenceIn p) (plainsIn p) q
 
 rows-wide : (w n : ℕ) (s : List ℕ) {r : List ℕ} → n * w ≤ length s → List·Memᴰ r (rows w n s) → length r ≡ w
@@ -96,13 +67,13 @@ balance-wide p b i =
 
 module _ (p : List ℕ) where
   joined-wide : {a b : Key} → Joined (plainsIn p) a b → Wide b
-  joined-wide (joined (forth q) i) = (plains-hold (sectionOf p 0) (wide (sectionOf p 0)) (instructionsIn p) (Memᴰ·cast q i)) .1
-  joined-wide (joined (back q) i) = (plains-hold (sectionOf p 0) (wide (sectionOf p 0)) (instructionsIn p) (Memᴰ·cast q i)) .0
+  joined-wide (joined (forth q) i) = (plains-hold (programAt (sectionOf p 0)) (wide (sectionOf p 0)) (instructionsIn p) (Memᴰ·cast q i)) .1
+  joined-wide (joined (back q) i) = (plains-hold (programAt (sectionOf p 0)) (wide (sectionOf p 0)) (instructionsIn p) (Memᴰ·cast q i)) .0
 
   -- so have the account that a chain reaches, and its mint
   chain-wide : {a m : Key} → Chain (evidenceIn p) (plainsIn p) m a → Wide a × Wide m
   chain-wide (start o) =
-      let k = evidence-holds (sectionOf p 0) (wide (sectionOf p 0)) (viewOf p .balances) (instructionsIn p) (o .says .piece) in
+      let k = evidence-holds (programAt (sectionOf p 0)) (wide (sectionOf p 0)) (viewOf p .balances) (instructionsIn p) (o .says .piece) in
       (k .0, k .1 (balance-wide p))
   chain-wide (along c j f n) = (joined-wide j, (chain-wide c) .1)
 
@@ -121,15 +92,17 @@ rows-room {e} {ps} {x} y =
 -- the same evidence, in another order
 module _ {p q : List ℕ} (h : SameEvidence p q) where
   pub same-evidence : SameMembers (evidenceIn p) (evidenceIn q)
+  unfolding evidenceOf
   same-evidence =
       subst
-      (λ (ks : List ℕ). SameMembers (evidenceIn p) (evidenceOf ks (viewOf q .balances) (instructionsIn q)))
+      (λ (ks : List ℕ). SameMembers (evidenceIn p) (evidenceOf (keyOf ks) (programAt ks) (viewOf q .balances) (instructionsIn q)))
       (h .keys)
-      (append-same (gather-same (balanceSays (sectionOf p 0)) (h .balances)) (gather-same (recordsOf (sectionOf p 0)) (h .invocations)))
+      (append-same (gather-same (balanceSays (keyOf (sectionOf p 0))) (h .balances)) (gather-same (says (keyOf (sectionOf p 0)) (programAt (sectionOf p 0))) (h .invocations)))
 
   pub same-plains : SameMembers (plainsIn p) (plainsIn q)
+  unfolding transfersOf
   same-plains =
-      subst (λ (ks : List ℕ). SameMembers (plainsIn p) (plainsOf ks (instructionsIn q))) (h .keys) (gather-same (plainOf (sectionOf p 0)) (h .invocations))
+      subst (λ (ks : List ℕ). SameMembers (plainsIn p) (transfersOf (keyOf ks) (programAt ks) (instructionsIn q))) (h .keys) (gather-same (moves (keyOf (sectionOf p 0)) (programAt (sectionOf p 0))) (h .invocations))
 
   -- the two mint tables are alike
   pub tables-alike : {x y : Answer} → mintsIn p ≡ some x → mintsIn q ≡ some y → Alike (evidenceIn p) (plainsIn p) x y

@@ -2,17 +2,17 @@
 -- Assumes nothing.
 use mathlib.Core.Path.{_≡_, refl, sym, ap, ap₂, _∙_}
 use mathlib.Core.List.{List, [], _∷_, _++_, map, append-assoc, List·Memᴰ, List·Memᴰ·head, List·Memᴰ·tail, Memᴰ·of-map}
-use Prim.Native.Nat.{ℕ, zero, suc, _+_, _*_, _/_, _≤_, _<_}
-use native.Mathlib.Nat.{zero-mul, suc-mul, zero-add, add-comm}
+use Prim.Native.Nat.{ℕ, suc, _+_, _*_, _/_, _≤_}
+use native.Mathlib.Nat.{zero-mul, suc-mul, zero-add}
 use native.Mathlib.Omega.{arith}
 use lib.ListN.{length, getD, take, drop, length-append, length-map, length-replicate}
-use lib.Seq.{sets, sets-eq, take-at, drop-at, drop-drop, getD-at}
+use lib.Seq.{sets, sets-eq, take-at, drop-at, getD-at}
 use Rattle.wire.specs.Zeros.{zeros}
 use Rattle.wire.specs.Sets.{sets-next}
 use Rattle.pack.specs.Items.{rows}
 use Rattle.evidence.specs.MintTable.{MintRow}
+use Rattle.mints.specs.Bytes.{mintRow}
 use Rattle.route.specs.Lay.{placed, written}
-use Rattle.route.specs.Tables.{mintRow}
 use Rattle.route.specs.Order.{mintRead, mintsRead}
 
 -- every row has w bytes
@@ -58,13 +58,6 @@ module _ (w : ℕ) where
         sets-eq (flat l) (zeros n) 0 (rw (zero-add, flat-length l h, length-replicate) f),
       )
       (rows-flat l (drop (0 + length (flat l)) (zeros n)) h)
-
-  -- row k stands in the bytes from k * w on
-  pub row-at : (n k : ℕ) (s : List ℕ) → k < n → getD (rows w n s) k [] ≡ take w (drop (k * w) s)
-  unfolding rows
-  row-at zero k s h = absurd (omega arith)
-  row-at (suc n) zero s h = rw (zero-mul w)
-  row-at (suc n) (suc k) s h = row-at n k (drop w s) (omega arith) ∙ rw (drop-drop (k * w) w s, suc-mul k w, add-comm (k * w) w)
 
 -- a row of 65 bytes is read back
 pub mint-read : (r : MintRow) → length (r .0) ≡ 32 → length (r .1) ≡ 32 → mintRead (mintRow r) ≡ r

@@ -13,7 +13,8 @@ use Rattle.pack.specs.Verdict.{verdict, numberOf, placeOf}
 use Rattle.pack.specs.declared.Verdict.{Verdict}
 use Rattle.pack.specs.declared.Verdict.the-variants.{Good, Mark, Starts, Section, Keys, Invocations}
 use Rattle.evidence.specs.MintTable.{Answer}
-use Rattle.route.specs.Tables.{mintRow, Tables, tablesWith, tablesIf, tables}
+use Rattle.mints.specs.Bytes.{mintRow}
+use Rattle.route.specs.Tables.{Tables, tablesWith, tablesIf, tables}
 use Rattle.route.specs.Route.{Lent, Routed, refused, accepted, fitted, passed, tablesIn, judged, route}
 use Rattle.route.specs.Order.{mintsIn}
 use Rattle.route.proofs.OrderMints.{answered}

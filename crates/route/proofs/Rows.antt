@@ -1,9 +1,8 @@
 -- Rows of one item more, placed behind those so far: what the loops over the invocations cite.
 -- Assumes nothing.
-use mathlib.Core.Path.{_≡_, refl, sym, ap, _∙_}
-use mathlib.Core.Bool.{Bool, true, false, cond}
-use mathlib.Core.List.{List, [], _∷_, _++_, map, append-assoc, append-nil}
-use Prim.Native.Nat.{ℕ, zero, suc, _+_, _*_, _≤_}
+use mathlib.Core.Path.{_≡_, refl, ap, _∙_}
+use mathlib.Core.List.{List, [], _∷_, _++_, append-assoc, append-nil}
+use Prim.Native.Nat.{ℕ, zero, suc, _+_, _*_}
 use native.Mathlib.Nat.{add-zero, zero-add, add-suc, suc-add}
 use native.Mathlib.Numerals.{add-one}
 use native.Mathlib.Omega.{arith}
@@ -11,6 +10,7 @@ use lib.ListN.{length, set, length-append}
 use Rattle.wire.specs.Sets.{sets-next}
 use lib.Seq.{sets}
 use Rattle.subtrees.specs.Subtrees.{tab}
+use Rattle.subtrees.proofs.Arrays.{tab-length}
 use Rattle.pack.specs.Invocation.{Instruction}
 use Rattle.evidence.specs.MintTable.{MintRow}
 use Rattle.route.specs.Known.{Puts, Fills, Counts, numberAt, Numbers}
@@ -21,11 +21,6 @@ pub tab-snoc : {A : Type 0} (f : ℕ → A) (i n : ℕ) → tab f i (suc n) ≡ 
 unfolding tab
 tab-snoc f i zero = rw add-zero
 tab-snoc f i (suc n) = ap (λ l. f i ∷ l) (tab-snoc f (suc i) n ∙ rw (suc-add i n, ← add-suc i n))
-
-pub tab-length : {A : Type 0} (f : ℕ → A) (i n : ℕ) → length (tab f i n) ≡ n
-unfolding tab
-tab-length f i zero = refl
-tab-length f i (suc n) = ap suc (tab-length f (suc i) n)
 
 -- one item more
 pub rowsOf-snoc : {A : Type 0} (f : ℕ → A → List (List ℕ)) (i : ℕ) (l : List A) (x : A) → rowsOf f i (l ++ (x ∷ [])) ≡ rowsOf f i l ++ f (i + length l) x

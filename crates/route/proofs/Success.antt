@@ -1,8 +1,8 @@
 -- From the steps of `fill` to the answer and the tables of `route`.
 -- Assumes nothing.
-use mathlib.Core.Path.{_≡_, refl, sym, ap, _∙_}
-use mathlib.Core.Option.{Option, none, some}
-use mathlib.Core.List.{List, map, List·Memᴰ}
+use mathlib.Core.Path.{_≡_, sym, ap, _∙_}
+use mathlib.Core.Option.{some}
+use mathlib.Core.List.{List, map}
 use Prim.Native.Nat.{ℕ, _≤_}
 use native.Mathlib.Nat.{zero-mul}
 use native.Mathlib.Omega.{arith}
@@ -13,7 +13,7 @@ use Rattle.pack.specs.Sections.{sectionOf}
 use Rattle.evidence.specs.MintTable.{MintRow, Answer}
 use Rattle.evidence.specs.Order.{row-right}
 use Rattle.evidence.specs.Chains.{chain-mint, chain-account}
-use Rattle.mints.specs.Bytes.{tableBytes}
+use Rattle.mints.specs.Bytes.{mintRow, tableBytes}
 use Rattle.mints.specs.declared.Inferred.{Inferred}
 use Rattle.mints.specs.declared.Inferred.the-variants.{Made, TooManyPasses}
 use Rattle.mints.specs.Inference.{answerOf}
@@ -22,8 +22,8 @@ use Rattle.subtrees.proofs.Arrays.{tab-length}
 use Rattle.swaps.specs.Row.{poolsOf}
 use Rattle.route.specs.declared.Answer.{Answer as Reply}
 use Rattle.route.specs.Arrays.{itemAt}
-use Rattle.route.specs.Lay.{placed, written}
-use Rattle.route.specs.Tables.{Tables, mintRow, invocationAt, tablesWith}
+use Rattle.route.specs.Lay.{written}
+use Rattle.route.specs.Tables.{Tables, invocationAt, tablesWith}
 use Rattle.route.specs.Route.{Lent, lent, accepted, fitted, tablesIn, passed}
 use Rattle.route.specs.Order.{mintsIn}
 use Rattle.route.specs.Filled.{Finished, Filled}

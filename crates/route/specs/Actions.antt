@@ -11,7 +11,7 @@ use Rattle.natives.specs.declared.Native.{Native}
 use Rattle.natives.specs.declared.Native.the-variants.{Nothing, Fund, Sync, Close}
 use Rattle.evidence.specs.MintTable.{MintRow, mintIn}
 use Rattle.route.specs.Known.{rowIf}
-use Rattle.route.specs.Mints.{programOf}
+use Rattle.route.specs.Program.{programOf}
 
 -- the action that an instruction is, by the final mints of table 0's rows; ks is the key section
 unfoldable pub actionOf : List ℕ → List MintRow → Instruction → Option NativeAction

@@ -8,8 +8,8 @@ use mathlib.Core.Path.{_≡_}
 use lib.ListN.{length, take, drop}
 use lib.Seq.{sets}
 use Rattle.ids.specs.Keys.{Key, keyOf}
+use Rattle.ids.specs.Mints.{mintOf}
 use Rattle.pack.specs.Invocation.{Instruction}
-use Rattle.token.specs.Rows.{mintOf}
 use Rattle.evidence.specs.MintTable.{MintRow, mintIn}
 use Rattle.subtrees.specs.Subtrees.{tab}
 use Rattle.route.specs.Lay.{rowsOf, placed}

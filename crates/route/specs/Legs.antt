@@ -11,8 +11,7 @@ use Rattle.swaps.specs.Swap.{swap}
 use Rattle.swaps.specs.Row.{legRow}
 use Rattle.evidence.specs.MintTable.{MintRow, mintIn}
 use Rattle.route.specs.Known.{rowIf}
-use Rattle.route.specs.Mints.{programOf}
-use Rattle.route.specs.Program.{skips}
+use Rattle.route.specs.Program.{programOf, skips}
 
 -- the leg that an instruction is, by the final mints of table 0's rows; none is looked for where a route passes over the program
 unfoldable pub legOf : List ℕ → List ℕ → List Key → List MintRow → Instruction → Option RouteLeg

@@ -1,10 +1,9 @@
 pub mod Lay
-pub mod Mints
 pub mod Known
+pub mod Program
 pub mod Transfers
 pub mod Legs
 pub mod Actions
-pub mod Program
 pub mod Row
 pub mod Tables
 pub mod Route

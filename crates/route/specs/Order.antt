@@ -6,6 +6,8 @@ use mathlib.Core.List.{List, map, List·Permᴰ}
 use mathlib.Core.Option.{Option}
 use mathlib.Core.Logic.{_⊎_}
 use lib.ListN.{getD, take, drop}
+use Rattle.ids.specs.Keys.{keyOf}
+use Rattle.ids.specs.Which.{programAt}
 use Rattle.pack.specs.Invocation.{Instruction}
 use Rattle.pack.specs.Sections.{sectionOf}
 use Rattle.pack.specs.Items.{rows}
@@ -14,7 +16,7 @@ use Rattle.pack.specs.Flatten.{flatten}
 use Rattle.evidence.specs.Evidence.{Evidence}
 use Rattle.evidence.specs.Passes.{Transfers}
 use Rattle.evidence.specs.MintTable.{MintRow, Answer}
-use Rattle.route.specs.Mints.{evidenceOf, plainsOf, mintsOf}
+use Rattle.mints.specs.Inference.{evidenceOf, transfersOf, inferred}
 use Rattle.route.specs.Tables.{instructionsOf}
 use Rattle.route.specs.Route.{Routed}
 
@@ -24,15 +26,15 @@ instructionsIn p = instructionsOf (flatten (viewOf p))
 
 -- all that a pack says of mints
 abbrev pub evidenceIn : List ℕ → Evidence
-evidenceIn p = evidenceOf (sectionOf p 0) (viewOf p .balances) (instructionsIn p)
+evidenceIn p = evidenceOf (keyOf (sectionOf p 0)) (programAt (sectionOf p 0)) (viewOf p .balances) (instructionsIn p)
 
 -- its plain transfers
 abbrev pub plainsIn : List ℕ → Transfers
-plainsIn p = plainsOf (sectionOf p 0) (instructionsIn p)
+plainsIn p = transfersOf (keyOf (sectionOf p 0)) (programAt (sectionOf p 0)) (instructionsIn p)
 
 -- its mint table
 abbrev pub mintsIn : List ℕ → Option Answer
-mintsIn p = mintsOf (sectionOf p 0) (viewOf p .balances) (instructionsIn p)
+mintsIn p = inferred (keyOf (sectionOf p 0)) (programAt (sectionOf p 0)) (viewOf p .balances) (instructionsIn p)
 
 -- equal keys, flags included; the same balance rows and the same kept invocations, in any order
 pub record SameEvidence (p q : List ℕ) : Type 0 where

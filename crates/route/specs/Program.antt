@@ -2,8 +2,15 @@
 -- Assumes nothing.
 use Prim.Native.Nat.{ℕ, _+_}
 use mathlib.Core.Bool.{Bool, true, false, cond}
+use mathlib.Core.List.{List}
 use Rattle.ids.specs.declared.Id.{Id}
 use Rattle.ids.specs.declared.Id.the-variants.{SplToken, Token2022, WrappedSol, ComputeBudget, AssociatedToken, Memo, PumpFun, LaunchLab, PumpSwap, Clmm, Cpmm, AmmV4, Orca, Dlmm, System, Other, Unresolved}
+use Rattle.ids.specs.Which.{programAt}
+use Rattle.pack.specs.Invocation.{Instruction}
+
+-- the program of an instruction; ks is the key section
+abbrev pub programOf : List ℕ → Instruction → Id
+programOf ks x = programAt ks (x .program)
 
 -- the Rust's `skip_route`: the token programs, System, Compute Budget, Associated Token and Memo
 abbrev pub skips : Id → Bool

@@ -2,25 +2,23 @@
 -- Assumes nothing.
 use Prim.Native.Nat.{ℕ, suc, _+_}
 use mathlib.Core.Bool.{cond}
-use mathlib.Core.List.{List, [], _∷_, _++_, map}
+use mathlib.Core.List.{List, [], map}
 use mathlib.Core.Option.{Option, none, some}
 use lib.ListN.{length, getD, take}
-use Rattle.ids.specs.Keys.{Key}
+use Rattle.ids.specs.Keys.{Key, keyOf}
+use Rattle.ids.specs.Which.{programAt}
 use Rattle.pack.specs.Invocation.{Instruction, Position, Invocation}
 use Rattle.evidence.specs.MintTable.{MintRow, Answer}
+use Rattle.mints.specs.Bytes.{mintRow}
+use Rattle.mints.specs.Inference.{inferred}
 use Rattle.subtrees.specs.Subtrees.{tab, place, bits, endOf, insideOf, testsOf}
 use Rattle.route.specs.Known.{present}
 use Rattle.route.specs.Lay.{rowsOf}
-use Rattle.route.specs.Mints.{programOf, mintsOf}
-use Rattle.route.specs.Program.{programBits}
+use Rattle.route.specs.Program.{programOf, programBits}
 use Rattle.route.specs.Row.{invocationRow}
 use Rattle.route.specs.Transfers.{transferOf, transferRows}
 use Rattle.route.specs.Legs.{legOf, legRows}
 use Rattle.route.specs.Actions.{actionRows}
-
--- a row of table 0: account, mint, mark
-abbrev pub mintRow : MintRow → List ℕ
-mintRow r = r .0 ++ r .1 ++ (r .2 ∷ [])
 
 -- everything that is found in a transaction
 pub record Tables : Type 0 where
@@ -82,4 +80,4 @@ instructionsOf vs = map (λ v. v .instruction) vs
 
 -- the tables of a transaction, by keys, balances, invocations and pools: none where 512 passes do not suffice
 unfoldable pub tables : List ℕ → List ℕ → List (ℕ × Key) → List Invocation → List Key → Option Tables
-tables names ks balances vs pools = tablesIf names ks pools (positionsOf vs) (instructionsOf vs) (mintsOf ks balances (instructionsOf vs))
+tables names ks balances vs pools = tablesIf names ks pools (positionsOf vs) (instructionsOf vs) (inferred (keyOf ks) (programAt ks) balances (instructionsOf vs))

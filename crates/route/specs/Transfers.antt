@@ -11,7 +11,7 @@ use Rattle.token.specs.declared.Moved.{Moved}
 use Rattle.token.specs.declared.Moved.the-variants.{Nothing, FeeUnknown, FeeKnown}
 use Rattle.evidence.specs.MintTable.{MintRow, mintIn}
 use Rattle.route.specs.Known.{rowIf}
-use Rattle.route.specs.Mints.{programOf}
+use Rattle.route.specs.Program.{programOf}
 
 -- the transfer that an instruction gives; ks is the key section
 unfoldable pub transferOf : List ℕ → Instruction → Option Transfer

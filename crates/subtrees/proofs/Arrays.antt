@@ -12,7 +12,7 @@ use borrow.Author.Tests.{lt-ltb, le-ltb, ltb-true, ltb-false}
 use lib.Dec.{ltb}
 use lib.ListN.{length, getD, set, length-append, length-replicate, List·getD-append}
 use lib.Seq.{ext-getD, getD-append-add, getD-set-same, getD-set-other}
-use Rattle.wire.specs.Zeros.{zeros}
+use Rattle.wire.specs.Zeros.{zeros, zeros-at}
 use Rattle.pack.specs.Invocation.{Position, positionAt}
 use Rattle.subtrees.specs.Descendant.{descendant}
 use Rattle.subtrees.proofs.Blocks.{after}
@@ -66,11 +66,6 @@ module _ (outer inner height : List ℕ) (n : ℕ) where
       let w = after (length ps) (within ps) e (omega arith) in
       let k = known e p (omega arith) in
       (omega arith, omega arith)
-
-pub zeros-at : (n m : ℕ) → _≡_ {A = ℕ} (getD (zeros n) m 0) 0
-zeros-at zero m = refl
-zeros-at (suc n) zero = refl
-zeros-at (suc n) (suc m) = zeros-at n m
 
 -- what is stored at i is known from i on
 pub known-more : (ps : List Position) (own ends inside : List ℕ) (i e b : ℕ) → i < length ends → i < length inside

@@ -7,11 +7,11 @@ use native.Mathlib.Nat.{sub-self, sub-zero}
 use native.Mathlib.Omega.{arith}
 use lib.ListN.{length, getD, set}
 use lib.Seq.{getD-set-other}
-use Rattle.wire.specs.Zeros.{zeros}
+use Rattle.wire.specs.Zeros.{zeros, zeros-at}
 use Rattle.pack.specs.Invocation.{Position}
 use Rattle.subtrees.specs.Blocks.{sumIn, testsAt}
 use Rattle.subtrees.specs.Subtrees.{within, endOf, insideOf, Known, Stepped, Subtrees}
-use Rattle.subtrees.proofs.Arrays.{zeros-at, known-more, are-filled}
+use Rattle.subtrees.proofs.Arrays.{known-more, are-filled}
 use Rattle.subtrees.proofs.Count.{sum-front}
 
 module _ (ps : List Position) (own : List ℕ) where

@@ -1,78 +1,52 @@
 -- Rows: how long their fields are, and the search among graduated pools.
 -- Assumes nothing.
-use mathlib.Core.Path.{_≡_, refl, ap}
+use mathlib.Core.Path.{_≡_, refl}
 use mathlib.Core.Bool.{Bool, true, false, cond, _&&_}
 use mathlib.Core.List.{List, [], _∷_, _++_}
-use mathlib.Core.Option.{Option, none, some}
-use Prim.Native.Nat.{ℕ, suc, _+_, _*_, _-_, _/_, _≤_, _<_}
+use mathlib.Core.Option.{none, some}
+use Prim.Native.Nat.{ℕ, suc, _+_, _*_, _-_, _≤_, _<_}
 use native.Mathlib.Numerals.{add-one}
 use native.Mathlib.Omega.{arith}
-use borrow.Author.Tests.{ltb-true, eqb-true}
-use lib.Dec.{ltb, eqb}
-use lib.ListN.{length, take, drop, set, length-append, length-drop}
-use lib.Seq.{sets, length-take-le}
+use lib.Dec.{eqb}
+use lib.ListN.{length, take, drop, set, length-append}
+use lib.Seq.{sets}
 use Rattle.wire.specs.Le.{leBytes}
 use Rattle.wire.specs.Same.{same, same-true}
 use Rattle.wire.specs.Sets.{sets-append}
 use Rattle.wire.proofs.Laws.{leBytes-length}
-use Rattle.wire.specs.Below.{and-left}
-use Rattle.wire.specs.Zeros.{zeros}
-use Rattle.ids.specs.Keys.{Key, zeroKey, keyOf}
+use Rattle.ids.specs.Keys.{Key, zeroKey, isZero, keyOf}
+use Rattle.ids.specs.Mints.{isMint, mintOf, mintField}
+use Rattle.ids.proofs.Keys.{key-length, mint-length}
 use Rattle.swaps.specs.declared.Swap.{Swap}
 use Rattle.swaps.specs.Leg.{contains, explicit, orElse, legWith}
-use Rattle.swaps.specs.Row.{mintBytes, bit, keyBytes, endBytes, legRow, isMint, known, side, keysFrom}
-
--- a key of the pack has 32 bytes
-pub key-length : (ks : List ℕ) (i : ℕ) → length (keyOf ks i) ≡ 32
-unfolding zeroKey
-key-length ks i = go (ltb i (length ks / 33)) refl
-  where
-    go : (t : Bool) → ltb i (length ks / 33) ≡ t → length (cond t (take 32 (drop (i * 33 + 1) ks)) zeroKey) ≡ 32
-    go true e =
-        let h = ltb-true i (length ks / 33) e in
-        length-take-le 32 (drop (i * 33 + 1) ks) (simp length-drop (omega arith))
-    go false e = refl
-
--- a mint that may be absent, whose bytes are 32 where it is there
-some-length : (t : Bool) (m : Key) (o : Option Key) → (t ≡ true → length m ≡ 32) → length (mintBytes o) ≡ 33 → length (mintBytes (orElse (cond t (some m) none) o)) ≡ 33
-unfolding mintBytes
-some-length true m o h k = ap suc (h refl)
-some-length false m o h k = k
-
-explicit-length : (paired t : Bool) (m : Key) → length m ≡ 32 → length (mintBytes (cond paired (cond t none (some m)) none)) ≡ 33
-unfolding mintBytes
-explicit-length true true m h = refl
-explicit-length true false m h = ap suc h
-explicit-length false t m h = refl
-
--- a mint's field has 33 bytes
-pub mint-length : (m : List ℕ) (paired : Bool) (key : Key) → length key ≡ 32 → length (mintBytes (orElse (known m) (explicit paired key))) ≡ 33
-unfolding isMint
-mint-length m paired key h =
-    some-length (isMint m) m (explicit paired key) (λ e. eqb-true (length m) 32 (and-left (eqb (length m) 32) _ e)) (explicit-length paired (same key zeroKey) key h)
+use Rattle.swaps.specs.Row.{keyBytes, endBytes, legRow, side, keysFrom}
 
 -- a key that is not zero is a mint, and the zero key is none
-is-key : (key : Key) → same key zeroKey ≡ false → length key ≡ 32 → isMint key ≡ true
+is-key : (key : Key) → isZero key ≡ false → length key ≡ 32 → isMint key ≡ true
 unfolding isMint
 is-key key f h = rw (f, h)
 
-zero-field : 0 ∷ zeros 32 ≡ bit (isMint zeroKey) ∷ zeroKey
-unfolding isMint same zeroKey
-zero-field = refl
+zero-none : mintOf zeroKey ≡ none
+unfolding mintOf isMint same zeroKey
+zero-none = refl
 
--- what stands in a mint's field is its flag and `side`
-field : (t paired u : Bool) (m : List ℕ) (key : Key) → isMint m ≡ t → same key zeroKey ≡ u → length key ≡ 32
-    → mintBytes (orElse (cond t (some m) none) (cond paired (cond u none (some key)) none)) ≡ bit (isMint (cond t m (cond paired key zeroKey))) ∷ cond t m (cond paired key zeroKey)
-unfolding mintBytes
-field true paired u m key e f h = rw e
-field false true true m key e f h = rw (same-true key zeroKey f) zero-field
-field false true false m key e f h = rw (is-key key f h)
-field false false u m key e f h = zero-field
+-- which mint `side` is
+mint-by : (t paired u : Bool) (m : List ℕ) (key : Key) → isMint m ≡ t → isZero key ≡ u → length key ≡ 32
+    → mintOf (cond t m (cond paired key zeroKey)) ≡ orElse (cond t (some m) none) (cond paired (cond u none (some key)) none)
+unfolding mintOf
+mint-by true paired u m key e f h = rw e
+mint-by false true true m key e f h = rw (same-true key zeroKey f) zero-none
+mint-by false true false m key e f h = rw (is-key key f h)
+mint-by false false u m key e f h = zero-none
 
-pub mint-field : (m : List ℕ) (paired : Bool) (key : Key) → length key ≡ 32
-    → mintBytes (orElse (known m) (explicit paired key)) ≡ bit (isMint (side m paired key zeroKey)) ∷ side m paired key zeroKey
-unfolding side
-mint-field m paired key h = field (isMint m) paired (same key zeroKey) m key refl refl h
+pub side-mint : (m : List ℕ) (paired : Bool) (key : Key) → length key ≡ 32
+    → mintOf (side m paired key zeroKey) ≡ orElse (mintOf m) (explicit paired key)
+unfolding side mintOf
+side-mint m paired key h = mint-by (isMint m) paired (isZero key) m key refl refl h
+
+-- a mint's field has 33 bytes
+side-length : (m : List ℕ) (paired : Bool) (key : Key) → length key ≡ 32 → length (mintField (orElse (mintOf m) (explicit paired key))) ≡ 33
+side-length m paired key h = rw (← side-mint m paired key h) (mint-length (side m paired key zeroKey))
 
 -- five keys have 160 bytes
 keys-length : (a b c d e : Key) → length a ≡ 32 → length b ≡ 32 → length c ≡ 32 → length d ≡ 32 → length e ≡ 32 → length (keyBytes a b c d e) ≡ 160
@@ -92,26 +66,26 @@ pub row-in : (out : List ℕ) (at i : ℕ) (ks : List ℕ) (program : ℕ) (spen
     (sets
     (sets (set (sets out at (leBytes 4 i)) (at + 4) (s .protocol)) (at + 5)
     (keyBytes (keyOf ks program) (keyOf ks (s .pool)) (keyOf ks (s .trader)) (keyOf ks (s .input)) (keyOf ks (s .output))))
-    (at + 165) (mintBytes (orElse (known spent) (explicit (s .paired) (keyOf ks (s .first))))))
-    (at + 198) (mintBytes (orElse (known bought) (explicit (s .paired) (keyOf ks (s .second))))))
+    (at + 165) (mintField (orElse (mintOf spent) (explicit (s .paired) (keyOf ks (s .first))))))
+    (at + 198) (mintField (orElse (mintOf bought) (explicit (s .paired) (keyOf ks (s .second))))))
     (at + 231) (endBytes (s .exact) (s .amount) (s .threshold) (s .mode) (eqb (s .protocol) 3 && contains pools (keyOf ks (s .pool))))
-    ≡ sets out at (legRow i (keyOf ks program) (legWith (keyOf ks) (known spent) (known bought) pools s))
+    ≡ sets out at (legRow i (keyOf ks program) (legWith (keyOf ks) (mintOf spent) (mintOf bought) pools s))
 unfolding legRow
 row-in out at i ks program spent bought pools s =
     let l = key-length ks in
     fields-in out at i (s .protocol)
     (keyBytes (keyOf ks program) (keyOf ks (s .pool)) (keyOf ks (s .trader)) (keyOf ks (s .input)) (keyOf ks (s .output)))
-    (mintBytes (orElse (known spent) (explicit (s .paired) (keyOf ks (s .first)))))
-    (mintBytes (orElse (known bought) (explicit (s .paired) (keyOf ks (s .second)))))
+    (mintField (orElse (mintOf spent) (explicit (s .paired) (keyOf ks (s .first)))))
+    (mintField (orElse (mintOf bought) (explicit (s .paired) (keyOf ks (s .second)))))
     (endBytes (s .exact) (s .amount) (s .threshold) (s .mode) (eqb (s .protocol) 3 && contains pools (keyOf ks (s .pool))))
     (keys-length (keyOf ks program) (keyOf ks (s .pool)) (keyOf ks (s .trader)) (keyOf ks (s .input)) (keyOf ks (s .output))
     (l program) (l (s .pool)) (l (s .trader)) (l (s .input)) (l (s .output)))
-    (mint-length spent (s .paired) (keyOf ks (s .first)) (l (s .first)))
-    (mint-length bought (s .paired) (keyOf ks (s .second)) (l (s .second)))
+    (side-length spent (s .paired) (keyOf ks (s .first)) (l (s .first)))
+    (side-length bought (s .paired) (keyOf ks (s .second)) (l (s .second)))
 
 -- a leg's row has 250 bytes
 pub row-length : (i : ℕ) (ks : List ℕ) (program : ℕ) (spent bought : List ℕ) (pools : List Key) (s : Swap)
-    → length (legRow i (keyOf ks program) (legWith (keyOf ks) (known spent) (known bought) pools s)) ≡ 250
+    → length (legRow i (keyOf ks program) (legWith (keyOf ks) (mintOf spent) (mintOf bought) pools s)) ≡ 250
 unfolding legRow endBytes
 row-length i ks program spent bought pools s =
     let l = key-length ks in
@@ -119,8 +93,8 @@ row-length i ks program spent bought pools s =
     keys-length (keyOf ks program) (keyOf ks (s .pool)) (keyOf ks (s .trader)) (keyOf ks (s .input)) (keyOf ks (s .output)) (l program) (l (s .pool))
     (l (s .trader)) (l (s .input)) (l (s .output))
     in
-    let m = mint-length spent (s .paired) (keyOf ks (s .first)) (l (s .first)) in
-    let n = mint-length bought (s .paired) (keyOf ks (s .second)) (l (s .second)) in
+    let m = side-length spent (s .paired) (keyOf ks (s .first)) (l (s .first)) in
+    let n = side-length bought (s .paired) (keyOf ks (s .second)) (l (s .second)) in
     simp (length-append, leBytes-length, k, m, n)
 
 module _ (s : List ℕ) (key : Key) (rows i : ℕ) where

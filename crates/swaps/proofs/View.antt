@@ -7,12 +7,12 @@ use Prim.Native.Nat.{ℕ}
 use borrow.Author.Tests.{lt-ltb}
 use lib.ListN.{length}
 use Rattle.ids.specs.Keys.{Key, account}
+use Rattle.ids.specs.Mints.{mintOf}
 use Rattle.ids.specs.declared.Id.{Id}
 use Rattle.swaps.specs.declared.Swap.{Swap}
 use Rattle.swaps.specs.declared.Found.{Found}
 use Rattle.swaps.specs.declared.Found.the-variants.{Nothing, Leg}
 use Rattle.swaps.specs.Leg.{legWith, valued}
-use Rattle.swaps.specs.Row.{known}
 use Rattle.swaps.specs.Swap.{byProgram, swap, indexed, legOf}
 use Rattle.swaps.proofs.Among.{Among}
 use Rattle.swaps.proofs.Places.{among}
@@ -37,7 +37,7 @@ module _ (names : List ℕ) (κ : ℕ → Key) (id : Id) (accounts bytes : List 
   no-leg e = sym leg-is-swap ∙ ap (valued κ μ pools) e
 
   -- a leg, with the mints that are known of its input and output account handed in as bytes: `put_leg` writes the row of this very leg
-  pub a-leg : (s : Swap) (spent bought : List ℕ) → legOf names κ id accounts bytes ≡ Leg s → known spent ≡ μ (κ (s .input)) → known bought ≡ μ (κ (s .output))
-      → swap names κ id accounts bytes μ pools ≡ some (legWith κ (known spent) (known bought) pools s)
+  pub a-leg : (s : Swap) (spent bought : List ℕ) → legOf names κ id accounts bytes ≡ Leg s → mintOf spent ≡ μ (κ (s .input)) → mintOf bought ≡ μ (κ (s .output))
+      → swap names κ id accounts bytes μ pools ≡ some (legWith κ (mintOf spent) (mintOf bought) pools s)
   unfolding valued
   a-leg s spent bought e f g = sym leg-is-swap ∙ ap (valued κ μ pools) e ∙ rw (f, g)

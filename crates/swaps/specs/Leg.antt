@@ -6,7 +6,7 @@ use mathlib.Core.List.{List, [], _∷_}
 use mathlib.Core.Option.{Option, none, some}
 use lib.Dec.{eqb}
 use Rattle.wire.specs.Same.{same}
-use Rattle.ids.specs.Keys.{Key, zeroKey}
+use Rattle.ids.specs.Keys.{Key, isZero}
 use Rattle.swaps.specs.declared.Swap.{Swap}
 use Rattle.swaps.specs.declared.Found.{Found}
 use Rattle.swaps.specs.declared.Found.the-variants.{Nothing, Leg}
@@ -28,7 +28,7 @@ pub record RouteLeg : Type 0 where
 
 -- a key that is not zero
 abbrev pub nonZero : Key → Option Key
-nonZero k = cond (same k zeroKey) none (some k)
+nonZero k = cond (isZero k) none (some k)
 
 -- the explicit pair's key, where there is a pair and the key is not zero
 abbrev pub explicit : Bool → Key → Option Key

@@ -1,21 +1,13 @@
 -- A row of table 3, 250 bytes.
 -- Assumes nothing.
 use Prim.Native.Nat.{ℕ, zero, suc, _*_, _/_}
-use mathlib.Core.Bool.{Bool, cond, not, _&&_}
+use mathlib.Core.Bool.{Bool, cond}
 use mathlib.Core.List.{List, [], _∷_, _++_}
-use mathlib.Core.Option.{Option, none, some}
-use lib.Dec.{eqb}
 use lib.ListN.{length, take, drop}
 use Rattle.wire.specs.Le.{leBytes}
-use Rattle.wire.specs.Zeros.{zeros}
-use Rattle.wire.specs.Same.{same}
-use Rattle.ids.specs.Keys.{Key, zeroKey}
+use Rattle.ids.specs.Keys.{Key}
+use Rattle.ids.specs.Mints.{isMint, mintField}
 use Rattle.swaps.specs.Leg.{RouteLeg}
-
--- a mint's flag and bytes, all zero where it is absent
-unfoldable pub mintBytes : Option Key → List ℕ
-mintBytes none = 0 ∷ zeros 32
-mintBytes (some m) = 1 ∷ m
 
 -- a test as a byte
 abbrev pub bit : Bool → ℕ
@@ -33,16 +25,8 @@ keyBytes program pool trader input output = program ++ pool ++ trader ++ input +
 unfoldable pub legRow : ℕ → Key → RouteLeg → List ℕ
 legRow invocation program l =
     leBytes 4 invocation ++ (l .protocol ∷ []) ++ keyBytes program (l .pool) (l .trader) (l .input) (l .output)
-    ++ mintBytes (l .inputMint) ++ mintBytes (l .outputMint)
+    ++ mintField (l .inputMint) ++ mintField (l .outputMint)
     ++ endBytes (l .exact) (l .amount) (l .threshold) (l .mode) (l .graduated)
-
--- 32 bytes that are not all zero
-unfoldable pub isMint : List ℕ → Bool
-isMint m = eqb (length m) 32 && not (same m zeroKey)
-
--- a mint that is handed in as bytes
-abbrev pub known : List ℕ → Option Key
-known m = cond (isMint m) (some m) none
 
 -- which bytes stand in a mint's field: the mint handed in, else the pair's key, else the stand-in
 unfoldable pub side : List ℕ → Bool → Key → Key → Key

@@ -5,8 +5,9 @@ ghost use mathlib.Core.Bool.{_&&_};
 ghost use lib.Dec.{eqb};
 ghost use lib.Seq.{sets};
 ghost use Rattle.ids.specs.Keys.{keyOf};
+ghost use Rattle.ids.specs.Mints.{mintOf, mintField};
 ghost use Rattle.swaps.specs.Leg.{contains, explicit, orElse, legWith};
-ghost use Rattle.swaps.specs.Row.{bit as bitOf, mintBytes, keyBytes, endBytes, legRow, known as knownOf, isMint, side as sideOf, poolsOf};
+ghost use Rattle.swaps.specs.Row.{bit as bitOf, keyBytes, endBytes, legRow, side as sideOf, poolsOf};
 
 // Whether a run of 32-byte rows holds a key.
 fn holds(pools: &[u8], key: &[u8]) -> bool
@@ -42,14 +43,6 @@ fn bit(test: bool) -> u8
     if test { 1 } else { 0 }
 }
 
-// The key of an index.
-fn put_key(out: &mut [u8], at: usize, keys: &[u8], index: usize)
-    ensures { λ _. ⌜ now (out .exit) ≡ sets (now (out .entry)) at (keyOf (now (keys .entry)) index) ⌝ }
-{
-    let blank = [0u8; 32];
-    wire::put(out, at, ids::key(keys, &blank, index));
-}
-
 // The five keys.
 fn put_keys(
     out: &mut [u8],
@@ -66,29 +59,18 @@ fn put_keys(
     if out.len() <= at {
         return;
     }
-    put_key(out, at, keys, program);
-    put_key(out, at + 32, keys, pool as usize);
-    put_key(out, at + 64, keys, trader as usize);
-    put_key(out, at + 96, keys, input as usize);
-    put_key(out, at + 128, keys, output as usize);
-}
-
-// Whether 32 bytes that are not all zero were handed in.
-fn is_mint(mint: &[u8]) -> bool
-    ensures { λ r. ⌜ r ≡ isMint (now (mint .entry)) ⌝ }
-{
-    if mint.len() != 32 {
-        return false;
-    }
-    let blank = [0u8; 32];
-    !wire::equal(mint, &blank)
+    ids::put_key(out, at, keys, program);
+    ids::put_key(out, at + 32, keys, pool as usize);
+    ids::put_key(out, at + 64, keys, trader as usize);
+    ids::put_key(out, at + 96, keys, input as usize);
+    ids::put_key(out, at + 128, keys, output as usize);
 }
 
 // The mint of one side: the known one, else the explicit pair's, else the stand-in.
 fn side<'a>(known: &'a [u8], paired: bool, key: &'a [u8], blank: &'a [u8]) -> &'a [u8]
     ensures { λ r. ⌜ now r ≡ sideOf (now (known .entry)) paired (now (key .entry)) (now (blank .entry)) ⌝ }
 {
-    if is_mint(known) {
+    if ids::is_mint(known) {
         return known;
     }
     if paired { key } else { blank }
@@ -96,20 +78,11 @@ fn side<'a>(known: &'a [u8], paired: bool, key: &'a [u8], blank: &'a [u8]) -> &'
 
 // Its flag and bytes.
 fn put_side<'a>(out: &mut [u8], at: usize, known: &'a [u8], keys: &'a [u8], paired: bool, index: u8)
-    ensures { λ _. ⌜ now (out .exit) ≡ sets (now (out .entry)) at (mintBytes (orElse (knownOf (now (known .entry))) (explicit paired (keyOf (now (keys .entry)) index)))) ⌝ }
+    ensures { λ _. ⌜ now (out .exit) ≡ sets (now (out .entry)) at (mintField (orElse (mintOf (now (known .entry))) (explicit paired (keyOf (now (keys .entry)) index)))) ⌝ }
 {
-    if out.len() <= at {
-        return;
-    }
     let blank = [0u8; 32];
-    let mint = side(
-        known,
-        paired,
-        ids::key(keys, &blank, index as usize),
-        &blank,
-    );
-    wire::put_byte(out, at, bit(is_mint(mint)));
-    wire::put(out, at + 1, mint);
+    let key = ids::key(keys, &blank, index as usize);
+    ids::put_mint(out, at, side(known, paired, key, &blank));
 }
 
 // What follows the mints.
@@ -147,7 +120,7 @@ pub fn put_leg<'a>(
     bought: &'a [u8],
     pools: &[u8],
 )
-    ensures { λ _. ⌜ now (out .exit) ≡ sets (now (out .entry)) at (legRow invocation (keyOf (now (keys .entry)) program) (legWith (keyOf (now (keys .entry))) (knownOf (now (spent .entry))) (knownOf (now (bought .entry))) (poolsOf (now (pools .entry))) leg)) ⌝ }
+    ensures { λ _. ⌜ now (out .exit) ≡ sets (now (out .entry)) at (legRow invocation (keyOf (now (keys .entry)) program) (legWith (keyOf (now (keys .entry))) (mintOf (now (spent .entry))) (mintOf (now (bought .entry))) (poolsOf (now (pools .entry))) leg)) ⌝ }
 {
     if out.len() <= at {
         return;

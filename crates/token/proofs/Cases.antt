@@ -13,7 +13,7 @@ use Rattle.ids.specs.Keys.{Key, zeroKey}
 use Rattle.token.specs.Programs.{isToken, isToken2022}
 use Rattle.token.specs.Tokens.{initialises, plainTransfer, checkedTransfer, feeTransfer}
 use Rattle.token.specs.Records.{bothEnds, records}
-use Rattle.token.specs.Transfers.{isZero, plainly, checked, transfer}
+use Rattle.token.specs.Transfers.{plainly, checked, transfer}
 
 -- n keys, none of them zero
 abbrev pub keysUpTo : ℕ → ℕ → Key
@@ -21,5 +21,5 @@ keysUpTo n i = cond (ltb i n) (replicate 32 (suc i)) zeroKey
 
 -- a checked transfer whose source is past the keys: no transfer, and its destination is recorded all the same
 pub apart : (transfer (keysUpTo 3) SplToken (255 ∷ 1 ∷ 2 ∷ 0 ∷ []) (12 ∷ replicate 9 0) ≡ none) × (records (keysUpTo 3) SplToken (255 ∷ 1 ∷ 2 ∷ 0 ∷ []) (12 ∷ replicate 9 0) ≡ (zeroKey, keysUpTo 3 1) ∷ (keysUpTo 3 2, keysUpTo 3 1) ∷ [])
-unfolding transfer records bothEnds plainly checked isZero zeroKey same isToken isToken2022 initialises plainTransfer checkedTransfer feeTransfer
+unfolding transfer records bothEnds plainly checked zeroKey same isToken isToken2022 initialises plainTransfer checkedTransfer feeTransfer
 apart = (refl, refl)

@@ -1,42 +1,22 @@
 -- A row is written field by field, and each field begins where the one before it ends.
 -- Assumes nothing.
-use mathlib.Core.Path.{_≡_, refl, sym, ap, _∙_}
-use mathlib.Core.Bool.{Bool, true, false, cond, _&&_, not}
-use mathlib.Core.List.{List, [], _∷_, _++_}
+use mathlib.Core.Path.{_≡_, refl, ap}
+use mathlib.Core.List.{List, _∷_, _++_}
 use mathlib.Core.Option.{Option, none, some}
-use Prim.Native.Nat.{ℕ, suc, _+_, _*_, _/_, _<_}
+use Prim.Native.Nat.{ℕ, suc, _+_, _*_}
 use native.Mathlib.Omega.{arith}
-use lib.Dec.{ltb, eqb}
-use lib.ListN.{length, set, take, drop, length-append, length-take, length-drop}
+use lib.ListN.{length, set, length-append}
 use lib.Seq.{sets}
-use borrow.Author.Tests.{ltb-true, eqb-true}
 use Rattle.wire.proofs.Laws.{leBytes-length}
 use Rattle.wire.specs.Sets.{sets-next}
-use Rattle.wire.specs.Below.{and-left}
-use Rattle.ids.specs.Keys.{Key, zeroKey, keyCount, keyOf}
-use Rattle.token.specs.Transfers.{Transfer, isZero, given}
-use Rattle.token.specs.Rows.{mintOf, mintField, feeField, rowOf, rowsOf}
+use Rattle.ids.specs.Keys.{Key, keyOf}
+use Rattle.ids.specs.Mints.{mintOf, mintField}
+use Rattle.ids.proofs.Keys.{key-length, mint-length}
+use Rattle.token.specs.Transfers.{Transfer, given}
+use Rattle.token.specs.Rows.{feeField, rowOf, rowsOf}
 use Rattle.token.specs.Moved.{valueOf}
 use Rattle.token.specs.declared.Moved.{Moved}
 use Rattle.token.specs.declared.Moved.the-variants.{Nothing, FeeUnknown, FeeKnown}
-
--- a key that is looked up has 32 bytes
-pub key-length : (ks : List ℕ) (i : ℕ) → length (keyOf ks i) ≡ 32
-unfolding zeroKey
-key-length ks i = go (ltb i (keyCount ks)) refl
-  where
-    go : (b : Bool) → ltb i (keyCount ks) ≡ b → length (cond b (take 32 (drop (i * 33 + 1) ks)) zeroKey) ≡ 32
-    go true e = simp (length-take, length-drop) (omega (arith, ltb-true i (keyCount ks) e))
-    go false e = refl
-
--- a flag and a mint have 33
-pub mint-length : (m : List ℕ) → length (mintField (mintOf m)) ≡ 33
-unfolding mintOf
-mint-length m = go (eqb (length m) 32 && not (isZero m)) refl
-  where
-    go : (b : Bool) → (eqb (length m) 32 && not (isZero m)) ≡ b → length (mintField (cond b (some m) none)) ≡ 33
-    go true e = ap suc (eqb-true (length m) 32 (and-left (eqb (length m) 32) (not (isZero m)) e))
-    go false e = refl
 
 -- the fields of a row of the table of transfers
 pub fields : (l : List ℕ) (at : ℕ) (i p s d m a f : List ℕ) (told : ℕ) → length i ≡ 4 → length p ≡ 32 → length s ≡ 32 → length d ≡ 32 → length m ≡ 33 → length a ≡ 8 → sets (set (sets (sets (sets (sets (sets (sets l at i) (at + 4) p) (at + 36) s) (at + 68) d) (at + 100) m) (at + 133) a) (at + 141) told) (at + 142) f ≡ sets l at (i ++ p ++ s ++ d ++ m ++ a ++ (told ∷ f))

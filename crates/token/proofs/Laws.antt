@@ -2,25 +2,24 @@
 -- Assumes nothing.
 use mathlib.Core.Path.{_≡_, refl, ap, _∙_}
 use mathlib.Core.Bool.{Bool, true, false, cond, _||_}
-use mathlib.Core.List.{List, [], _∷_}
-use mathlib.Core.Option.{Option, none, some}
+use mathlib.Core.List.{List}
+use mathlib.Core.Option.{none, some}
 use Prim.Native.Nat.{ℕ, _<_}
 use native.Mathlib.Omega.{arith}
 use lib.ListN.{length, getD}
 use borrow.Author.Tests.{lt-ltb}
 use Rattle.wire.specs.Le.{le}
 use Rattle.ids.specs.declared.Id.{Id}
-use Rattle.ids.specs.Keys.{Key, account}
+use Rattle.ids.specs.Keys.{Key, isZero, account}
 use Rattle.token.specs.Programs.{isSpl}
 use Rattle.token.specs.Tokens.{tokenOf}
 use Rattle.token.specs.Records.{bothEnds, records, recordsBy, plain, plainBy}
-use Rattle.token.specs.Transfers.{Transfer, isZero, feeOf, plainly, checked, transfer}
+use Rattle.token.specs.Transfers.{feeOf, plainly, checked, transfer}
 use Rattle.token.specs.Moved.{valueOf, feeless, movedBy}
 use Rattle.token.specs.declared.Token.{Token}
-use Rattle.token.specs.declared.Token.the-variants.{Other, Initialise, Plain, Checked, WithFee}
 use Rattle.token.specs.declared.Moved.{Moved}
 use Rattle.token.specs.declared.Moved.the-variants.{Nothing, FeeUnknown, FeeKnown}
-use Rattle.token.proofs.Said.{Said, initialised, plainly as saysPlain, checkedly, feely, otherwise, said, Tests}
+use Rattle.token.proofs.Said.{Said, initialised, plainly as saysPlain, checkedly, feely, otherwise, said}
 
 -- an account that is there is the key of its index byte
 pub there : (κ : ℕ → Key) (accounts : List ℕ) (i : ℕ) → i < length accounts → account κ accounts i ≡ κ (getD accounts i 0)

@@ -6,9 +6,9 @@ use mathlib.Core.List.{List}
 use mathlib.Core.Option.{Option, none, some}
 use lib.ListN.{getD}
 use Rattle.ids.specs.declared.Id.{Id}
-use Rattle.ids.specs.Keys.{Key}
+use Rattle.ids.specs.Keys.{Key, isZero}
 use Rattle.token.specs.Programs.{isSpl}
-use Rattle.token.specs.Transfers.{Transfer, isZero}
+use Rattle.token.specs.Transfers.{Transfer}
 use Rattle.token.specs.declared.Token.{Token}
 use Rattle.token.specs.declared.Token.the-variants.{Other, Initialise, Plain, Checked, WithFee}
 use Rattle.token.specs.declared.Moved.{Moved}

@@ -2,24 +2,13 @@
 -- Absent fields are zero.
 -- Assumes nothing.
 use Prim.Native.Nat.{ℕ}
-use mathlib.Core.Bool.{cond, _&&_, not}
 use mathlib.Core.List.{List, [], _∷_, _++_}
 use mathlib.Core.Option.{Option, none, some}
-use lib.Dec.{eqb}
-use lib.ListN.{length}
 use Rattle.wire.specs.Le.{leBytes}
 use Rattle.wire.specs.Zeros.{zeros}
 use Rattle.ids.specs.Keys.{Key}
-use Rattle.token.specs.Transfers.{Transfer, isZero}
-
--- a mint that is handed over as 32 bytes; zero, or of another length, it is none
-unfoldable pub mintOf : List ℕ → Option Key
-mintOf m = cond (eqb (length m) 32 && not (isZero m)) (some m) none
-
--- a flag and a key
-abbrev pub mintField : Option Key → List ℕ
-mintField none = zeros 33
-mintField (some k) = 1 ∷ k
+use Rattle.ids.specs.Mints.{mintField}
+use Rattle.token.specs.Transfers.{Transfer}
 
 -- a flag and a number of eight bytes
 abbrev pub feeField : Option ℕ → List ℕ

@@ -1,14 +1,13 @@
 -- The Rust's `transfer`: which transfer of tokens an instruction gives. Its mint and its place are the row's business, and not told here.
 -- Assumes nothing.
 use Prim.Native.Nat.{ℕ}
-use mathlib.Core.Bool.{Bool, cond, _||_}
+use mathlib.Core.Bool.{cond, _||_}
 use mathlib.Core.List.{List}
 use mathlib.Core.Option.{Option, none, some}
 use lib.ListN.{length}
 use Rattle.wire.specs.Le.{le}
-use Rattle.wire.specs.Same.{same}
 use Rattle.ids.specs.declared.Id.{Id}
-use Rattle.ids.specs.Keys.{Key, zeroKey, account}
+use Rattle.ids.specs.Keys.{Key, isZero, account}
 use Rattle.token.specs.Programs.{isSpl}
 use Rattle.token.specs.Tokens.{plainTransfer, checkedTransfer, feeTransfer}
 
@@ -17,10 +16,6 @@ pub record Transfer : Type 0 where
   pub destination : Key
   pub amount : ℕ
   pub fee : Option ℕ
-
--- a key that is missing, or zero
-unfoldable pub isZero : Key → Bool
-isZero k = same k zeroKey
 
 -- the fee of a transfer that names none: 0 under SPL Token, not known under Token-2022
 unfoldable pub feeOf : Id → Option ℕ

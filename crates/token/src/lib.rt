@@ -5,10 +5,10 @@ ghost use mathlib.Core.Path.{_≡_};
 ghost use mathlib.Core.Bool.{_&&_, _||_};
 ghost use lib.Dec.{leb, eqb};
 ghost use lib.ListN.{length, getD};
-ghost use Rattle.ids.specs.Keys.{keyOf};
+ghost use Rattle.ids.specs.Keys.{keyOf, isZero};
 ghost use Rattle.token.specs.Programs.{isToken, isSpl, isToken2022};
 ghost use Rattle.token.specs.Tokens.{tokenOf};
-ghost use Rattle.token.specs.Transfers.{isZero, transfer as transferOf};
+ghost use Rattle.token.specs.Transfers.{transfer as transferOf};
 ghost use Rattle.token.specs.Moved.{valueOf, feeless, movedBy, sourceBy};
 use ids::Id;
 

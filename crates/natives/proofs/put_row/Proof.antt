@@ -6,7 +6,7 @@ use lib.ListN.{length}
 use Rattle.ids.specs.Keys.{zeroKey, keyOf}
 use Rattle.natives.specs.Numbers.{valueOf}
 use Rattle.natives.specs.Rows.{rowsOf}
-use Rattle.token.proofs.Fields.{key-length}
+use Rattle.ids.proofs.Keys.{key-length}
 use Rattle.wire.specs.Sets.{sets-past}
 use borrow.Author.Needs.{needs}
 use Rattle.natives.proofs.put_row.Statement.{statement}

@@ -1,4 +1,3 @@
-use Rattle.token.specs.Transfers.{isZero}
 use Rattle.ids.specs.Keys.{zeroKey}
 use mathlib.Core.Path.{_∙_}
 use borrow.Author.Needs.{needs}
@@ -27,7 +26,7 @@ equal-requires c κs = search needs
 
 -- src/lib.rt:133:1
 returns : tie.Need-returns
-unfolding isZero zeroKey
+unfolding zeroKey
 returns c = c .equal .ensures ∙ rw (c .before .before .key .ensures)
 
 pub missing-spec : {M : Type 1} → statement M

@@ -1,8 +1,9 @@
 use Rattle.mints.specs.Gather.{noteAccount}
 use Rattle.mints.specs.Note.{noteAt}
 use Rattle.mints.proofs.Noting.{one-new}
-use Rattle.mints.proofs.Search.{account-length, row-fits}
-use Rattle.ids.specs.Keys.{zeroKey}
+use Rattle.mints.proofs.Search.{row-fits}
+use Rattle.ids.proofs.Keys.{key-length, account-length}
+use Rattle.ids.specs.Keys.{zeroKey, keyOf}
 use lib.ListN.{length}
 use denote.Ref.{now}
 use mathlib.Core.Path.{refl, ap, _∙_}
@@ -33,7 +34,7 @@ note-requires : tie.Need-note-requires
 unfolding zeroKey
 note-requires c κs =
     let a = c .before .before .before .before .before .before .before .before .args in (
-      ap length (c .before .before .account-key .ensures) ∙ account-length (a .keys .now) (a .accounts .now) 1,
+      ap length (c .before .before .account-key .ensures) ∙ account-length (keyOf (a .keys .now)) (key-length (a .keys .now)) (a .accounts .now) 1,
       rw (c .before .account-row .ensures) (row-fits (a .table .now) (a .row .now) (a .accounts .now) (a .i) (c .before .before .before .before .before .before .before .before .pre .1)),
     )
 

@@ -1,4 +1,5 @@
-use Rattle.mints.proofs.Search.{within, key-length}
+use Rattle.mints.proofs.Search.{within}
+use Rattle.ids.proofs.Keys.{key-length}
 use Rattle.mints.proofs.Laying.{lay-next, one-row}
 use denote.Ref.{now}
 use Rattle.mints.specs.Cells.{withState}

@@ -1,7 +1,7 @@
 use Rattle.route.proofs.Acting.{count-le, row-counted, row-placed}
 use Rattle.route.specs.Actions.{actionOf, actionRows}
 use Rattle.route.specs.Known.{Holds}
-use Rattle.route.specs.Mints.{programOf}
+use Rattle.route.specs.Program.{programOf}
 use Rattle.natives.proofs.Laws.{native-is}
 use Rattle.natives.specs.Numbers.{valueOf, actedOf}
 use Rattle.evidence.specs.MintTable.{MintRow, mintIn}

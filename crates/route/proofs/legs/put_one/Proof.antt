@@ -1,17 +1,18 @@
-use Rattle.route.proofs.Legging.{known-mint, leg-swap}
+use Rattle.route.proofs.Legging.{leg-swap}
 use Rattle.route.specs.Known.{mintAt, Holds}
 use Rattle.route.specs.Lay.{placed}
 use Rattle.route.specs.Legs.{legRows}
-use Rattle.route.specs.Mints.{programOf}
+use Rattle.route.specs.Program.{programOf}
 use Rattle.swaps.proofs.View.{no-leg, a-leg}
 use Rattle.swaps.specs.declared.Found.the-variants.{Nothing, Leg}
-use Rattle.swaps.specs.Row.{known, poolsOf}
+use Rattle.swaps.specs.Row.{poolsOf}
 use Rattle.swaps.specs.Swap.{swap, legOf as legIn}
 use Rattle.swaps.specs.Leg.{legWith}
 use Rattle.swaps.specs.declared.Swap.{Swap}
 use Rattle.evidence.specs.MintTable.{MintRow, mintIn}
 use Rattle.pack.specs.Invocation.{Instruction, instructionAt}
 use Rattle.ids.specs.Keys.{Key, keyOf}
+use Rattle.ids.specs.Mints.{mintOf}
 use mathlib.Core.List.{List}
 use mathlib.Core.Path.{_≡_, sym, _∙_}
 use Prim.Native.Nat.{ℕ, _<_}
@@ -104,11 +105,11 @@ same-length c = search needs
 is-leg : (ms names ks : List ℕ) (pools : List Key) (x : Instruction) (s : Swap)
     → legIn names (keyOf ks) (programOf ks x) (x .accounts) (x .bytes) ≡ Leg s
     → (table : List MintRow) → Holds ms ks table → s .input < 256 → s .output < 256
-    → swap names (keyOf ks) (programOf ks x) (x .accounts) (x .bytes) (mintIn table) pools ≡ some (legWith (keyOf ks) (known (mintAt ms (s .input))) (known (mintAt ms (s .output))) pools s)
+    → swap names (keyOf ks) (programOf ks x) (x .accounts) (x .bytes) (mintIn table) pools ≡ some (legWith (keyOf ks) (mintOf (mintAt ms (s .input))) (mintOf (mintAt ms (s .output))) pools s)
 is-leg ms names ks pools x s e table h p q =
     a-leg names (keyOf ks) (programOf ks x) (x .accounts) (x .bytes) (mintIn table) pools s (mintAt ms (s .input)) (mintAt ms (s .output)) e
-    (known-mint (mintAt ms (s .input)) ∙ h (s .input) p)
-    (known-mint (mintAt ms (s .output)) ∙ h (s .output) q)
+    (h (s .input) p)
+    (h (s .output) q)
 
 returns-2 : tie.Need-returns-2
 unfolding legRows placed

@@ -3,7 +3,7 @@ use Rattle.route.proofs.Moving.{count-le, row-counted, row-placed}
 use Rattle.route.specs.Known.{mintAt}
 use Rattle.route.specs.Transfers.{transferOf, transferRows}
 use Rattle.token.specs.Moved.{valueOf, sourceBy}
-use Rattle.token.specs.Rows.{mintOf}
+use Rattle.ids.specs.Mints.{mintOf}
 use Rattle.evidence.specs.MintTable.{mintIn}
 use Rattle.pack.specs.Invocation.{instructionAt}
 use Rattle.ids.specs.Keys.{keyOf}

@@ -1,13 +1,13 @@
 use Rattle.swaps.specs.Row.{keyBytes}
 use Rattle.wire.specs.Sets.{sets-append, sets-past}
-use Rattle.swaps.proofs.Rows.{key-length}
+use Rattle.ids.proofs.Keys.{key-length}
 use lib.ListN.{length-append}
 use borrow.Author.Needs.{needs}
 use Rattle.swaps.proofs.row.put_keys.Statement.{statement}
 use Rattle.swaps.proofs.row.put_keys.Tie as tie
 use Rattle.swaps.proofs.row.put_keys.Reads as reads
 use Rattle.swaps.proofs.row.put_keys.Lts as lts
-use Rattle.swaps.proofs.row.put_key.Reads as put-key-reads
+use Rattle.ids.proofs.put_key.Reads as put-key-reads
 
 -- src/row.rt:59:9
 returns : tie.Need-returns

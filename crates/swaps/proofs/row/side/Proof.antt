@@ -5,7 +5,7 @@ use Rattle.swaps.proofs.row.side.Statement.{statement}
 use Rattle.swaps.proofs.row.side.Tie as tie
 use Rattle.swaps.proofs.row.side.Reads as reads
 use Rattle.swaps.proofs.row.side.Lts as lts
-use Rattle.swaps.proofs.row.is_mint.Reads as is-mint-reads
+use Rattle.ids.proofs.is_mint.Reads as is-mint-reads
 
 -- src/row.rt:91:8
 is-mint-requires : tie.Need-is-mint-requires

@@ -1,18 +1,19 @@
 -- Each call stores one field, and each field begins where the one before it ends (`fields`).
 -- Assumes nothing.
 use native.Mathlib.Omega.{arith}
-use Rattle.token.specs.Rows.{mintOf, mintField}
+use Rattle.ids.specs.Mints.{mintOf, mintField}
 use Rattle.ids.specs.Keys.{keyOf}
 use Rattle.wire.specs.Le.{leBytes}
 use Rattle.wire.proofs.Laws.{leBytes-length}
-use Rattle.token.proofs.Fields.{fields, key-length, mint-length}
+use Rattle.token.proofs.Fields.{fields}
+use Rattle.ids.proofs.Keys.{key-length, mint-length}
 use borrow.Author.Needs.{needs}
 use Rattle.token.proofs.row.put_fields.Statement.{statement}
 use Rattle.token.proofs.row.put_fields.Tie as tie
 use Rattle.token.proofs.row.put_fields.Reads as reads
 use Rattle.token.proofs.row.put_fields.Lts as lts
-use Rattle.token.proofs.row.put_key.Reads as put-key-reads
-use Rattle.token.proofs.row.put_mint.Reads as put-mint-reads
+use Rattle.ids.proofs.put_key.Reads as put-key-reads
+use Rattle.ids.proofs.put_mint.Reads as put-mint-reads
 use Rattle.wire.proofs.put_byte.Reads as put-byte-reads
 use Rattle.wire.proofs.put_u32.Reads as put-u32-reads
 use Rattle.wire.proofs.put_u64.Reads as put-u64-reads

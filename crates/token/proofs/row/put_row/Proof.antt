@@ -3,7 +3,8 @@
 use mathlib.Core.Path.{sym, _∙_}
 use Rattle.ids.specs.Keys.{keyOf}
 use Rattle.token.specs.Moved.{valueOf}
-use Rattle.token.specs.Rows.{mintOf, rowOf, rowsOf}
+use Rattle.token.specs.Rows.{rowOf, rowsOf}
+use Rattle.ids.specs.Mints.{mintOf}
 use Rattle.wire.specs.Le.{leBytes}
 use Rattle.wire.specs.Sets.{sets-past}
 use borrow.Author.Needs.{needs}

@@ -1,30 +1,25 @@
 use mathlib.Core.Path.{_∙_}
 use Rattle.ids.specs.Keys.{zeroKey}
 use borrow.Author.Needs.{needs}
-use Rattle.token.proofs.row.put_key.Statement.{statement}
-use Rattle.token.proofs.row.put_key.Tie as tie
-use Rattle.token.proofs.row.put_key.Reads as reads
-use Rattle.token.proofs.row.put_key.Lts as lts
+use Rattle.ids.proofs.put_key.Statement.{statement}
+use Rattle.ids.proofs.put_key.Tie as tie
+use Rattle.ids.proofs.put_key.Reads as reads
+use Rattle.ids.proofs.put_key.Lts as lts
 use Rattle.ids.proofs.key.Reads as key-reads
 use Rattle.wire.proofs.put.Reads as put-reads
 
--- src/lib.rt:211:39
 slice-aggregate-key : tie.Need-slice-aggregate-key
 slice-aggregate-key c = search needs
 
--- src/lib.rt:211:24
 key-requires : tie.Need-key-requires
 key-requires c κs = search needs
 
--- src/lib.rt:211:5
 put-requires : tie.Need-put-requires
 put-requires c κs = search needs
 
--- src/lib.rt:207:1
 same-length : tie.Need-same-length
 same-length c = search needs
 
--- src/lib.rt:207:1
 returns : tie.Need-returns
 unfolding zeroKey
 returns c = c .before .before .put .ensures ∙ rw (c .before .before .before .key .ensures)
