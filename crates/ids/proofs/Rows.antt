@@ -1,20 +1,14 @@
--- The search for a key's row, one row at a time: what each turn of `row_of` cites.
+-- The search for a key's row, one row at a time: what each turn of `row_in` cites.
 -- Assumes nothing.
 use mathlib.Core.Path.{_≡_}
-use mathlib.Core.Bool.{Bool, true, false, cond, _&&_}
+use mathlib.Core.Bool.{Bool, true, false, cond}
 use Prim.Native.Nat.{ℕ, suc, _+_, _-_, _<_}
 use native.Mathlib.Numerals.{add-one}
 use native.Mathlib.Omega.{arith}
-use borrow.Author.Tests.{lt-ltb}
-use lib.Dec.{ltb}
 use Rattle.wire.specs.Same.{same}
 use Rattle.ids.specs.Keys.{Key, zeroKey}
 use Rattle.ids.specs.Ids.{idAt}
 use Rattle.ids.specs.Which.{rowFrom}
-
--- the answer of `is_id` for a row of the table
-pub in-table : (k : ℕ) (b : Bool) → k < 14 → (ltb k 14 && b) ≡ b
-in-table k b h = rw (lt-ltb k 14 h)
 
 -- the row is the key's
 pub found : (key : Key) (k : ℕ) → k < 14 → same (idAt k) key ≡ true → rowFrom key (14 - k) k ≡ k

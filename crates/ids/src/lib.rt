@@ -6,7 +6,6 @@ ghost use mathlib.Core.Path.{_≡_};
 ghost use mathlib.Core.Bool.{_&&_};
 ghost use Prim.Native.Nat.{_<_};
 ghost use lib.Dec.{ltb};
-ghost use lib.ListN.{getD};
 ghost use lib.Seq.{sets};
 ghost use Rattle.wire.specs.Same.{same};
 ghost use Rattle.ids.specs.Ids.{ids, idAt};
@@ -102,12 +101,13 @@ pub fn put_mint(out: &mut [u8], at: usize, mint: &[u8])
     }
 }
 
-// One byte of the table: the only function that names it, since every goal of such a function carries all of it.
-fn id_byte(i: usize) -> u8
-    requires { ⌜ i < 448 ⌝ }
-    ensures { λ r. ⌜ r ≡ getD ids i 0 ⌝ }
+// Whether `key` is the id of row k. The table is lent, since a constant array is built anew wherever it is named.
+fn is_row(table: &[u8], k: usize, key: &[u8]) -> bool
+    requires { ⌜ (now table ≡ ids) × (k < 14) ⌝ }
+    ensures { λ r. ⌜ r ≡ same (idAt k) (now (key .entry)) ⌝ }
 {
-    IDS[i]
+    let at = k * 32;
+    wire::equal(&table[at..at + 32], key)
 }
 
 // Whether `key` is the id of row k.
@@ -117,17 +117,8 @@ pub fn is_id(k: usize, key: &[u8]) -> bool
     if 14 <= k {
         return false;
     }
-    if key.len() != 32 {
-        return false;
-    }
-    let mut j = 0;
-    while j < 32 {
-        if id_byte(k * 32 + j) != key[j] {
-            return false;
-        }
-        j += 1;
-    }
-    true
+    let table = IDS;
+    is_row(&table, k, key)
 }
 
 // The case of a number.
@@ -156,18 +147,27 @@ fn of_number(n: u8) -> Id
 }
 
 // The row of a key in the table, or 14 for the zero key and 15 for any other.
-fn row_of(key: &[u8]) -> u8
+fn row_in(table: &[u8], key: &[u8]) -> u8
+    requires { ⌜ now table ≡ ids ⌝ }
     ensures { λ r. ⌜ r ≡ rowFrom (now (key .entry)) 14 0 ⌝ }
 {
     let mut k: usize = 0;
     while k < 14 {
-        if is_id(k, key) {
+        if is_row(table, k, key) {
             return k as u8;
         }
         k += 1;
     }
     let blank = [0u8; 32];
     if wire::equal(key, &blank) { 14 } else { 15 }
+}
+
+// The same, with the table built once. Every goal of a function that names it carries all of it, so the loop stands in one of its own.
+fn row_of(key: &[u8]) -> u8
+    ensures { λ r. ⌜ r ≡ rowFrom (now (key .entry)) 14 0 ⌝ }
+{
+    let table = IDS;
+    row_in(&table, key)
 }
 
 // Which program a key is.

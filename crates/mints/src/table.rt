@@ -22,6 +22,11 @@ fn find(table: &[u8], rows: usize, key: &[u8]) -> usize
         if rows <= i {
             break 'rows rows;
         }
+        // Accounts made in a row often differ in few bytes; the last one tells most of them apart at once.
+        if table[i * 65 + 31] != key[31] {
+            i += 1;
+            continue 'rows;
+        }
         let mut j = 0;
         while j < 32 {
             if table[i * 65 + j] != key[j] {

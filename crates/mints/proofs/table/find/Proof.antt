@@ -28,27 +28,23 @@ abbrev μ-rows : tie.MeasureT-rows
 rows-holds : tie.Need-rows-holds Inv-loop μ-loop Inv-rows μ-rows
 rows-holds c = (omega arith, simp sub-zero)
 
--- src/table.rt:26:9
-loop-holds : tie.Need-loop-holds Inv-loop μ-loop Inv-rows μ-rows
-loop-holds c = (refl, search needs, below-none _)
-
--- src/table.rt:27:22
+-- src/table.rt:26:18
 mul-if2 : tie.Need-mul-if2 Inv-loop μ-loop Inv-rows μ-rows
 mul-if2 c = omega arith
 
--- src/table.rt:27:22
+-- src/table.rt:26:18
 add-if2 : tie.Need-add-if2 Inv-loop μ-loop Inv-rows μ-rows
 add-if2 c = omega arith
 
--- src/table.rt:27:16
+-- src/table.rt:26:12
 shared-slice-read-if2 : tie.Need-shared-slice-read-if2 Inv-loop μ-loop Inv-rows μ-rows
 shared-slice-read-if2 c = omega arith
 
--- src/table.rt:27:37
+-- src/table.rt:26:34
 shared-slice-read-if2-2 : tie.Need-shared-slice-read-if2-2 Inv-loop μ-loop Inv-rows μ-rows
 shared-slice-read-if2-2 c = omega arith
 
--- src/table.rt:28:17
+-- src/table.rt:27:13
 add-i : tie.Need-add-i Inv-loop μ-loop Inv-rows μ-rows
 add-i c = omega arith
 
@@ -59,24 +55,59 @@ rows-less c = omega arith
 -- src/table.rt:21:9
 rows-again : tie.Need-rows-again Inv-loop μ-loop Inv-rows μ-rows
 rows-again c =
-    let l = c .before .before .before .before .loop in
-    let o = c .before .before .before .before .before .before .rows in
-    let a = c .before .before .before .before .before .before .before .args in
-    (omega arith, skip (a .table .now) (a .key .now) _ (l .i) (omega arith) (account-not (a .table .now) (a .key .now) (l .i) (l .j) (omega arith) (c .if2 .taken)) ∙ rw (l .inv .0) (o .inv .1))
+    let o = c .before .before .before .before .rows in
+    let a = c .before .before .before .before .before .args in
+    (omega arith, skip (a .table .now) (a .key .now) _ (o .i) (omega arith) (account-not (a .table .now) (a .key .now) (o .i) 31 (omega arith) (c .if2 .taken)) ∙ o .inv .1)
 
--- src/table.rt:31:13
+-- src/table.rt:31:9
+loop-holds : tie.Need-loop-holds Inv-loop μ-loop Inv-rows μ-rows
+loop-holds c = (refl, search needs, below-none _)
+
+-- src/table.rt:32:22
+mul-if3 : tie.Need-mul-if3 Inv-loop μ-loop Inv-rows μ-rows
+mul-if3 c = omega arith
+
+-- src/table.rt:32:22
+add-if3 : tie.Need-add-if3 Inv-loop μ-loop Inv-rows μ-rows
+add-if3 c = omega arith
+
+-- src/table.rt:32:16
+shared-slice-read-if3 : tie.Need-shared-slice-read-if3 Inv-loop μ-loop Inv-rows μ-rows
+shared-slice-read-if3 c = omega arith
+
+-- src/table.rt:32:37
+shared-slice-read-if3-2 : tie.Need-shared-slice-read-if3-2 Inv-loop μ-loop Inv-rows μ-rows
+shared-slice-read-if3-2 c = omega arith
+
+-- src/table.rt:33:17
+add-i-2 : tie.Need-add-i-2 Inv-loop μ-loop Inv-rows μ-rows
+add-i-2 c = omega arith
+
+-- src/table.rt:21:9
+rows-less-2 : tie.Need-rows-less-2 Inv-loop μ-loop Inv-rows μ-rows
+rows-less-2 c = omega arith
+
+-- src/table.rt:21:9
+rows-again-2 : tie.Need-rows-again-2 Inv-loop μ-loop Inv-rows μ-rows
+rows-again-2 c =
+    let l = c .before .before .before .before .loop in
+    let o = c .before .before .before .before .before .before .before .before .before .rows in
+    let a = c .before .before .before .before .before .before .before .before .before .before .args in
+    (omega arith, skip (a .table .now) (a .key .now) _ (l .i) (omega arith) (account-not (a .table .now) (a .key .now) (l .i) (l .j) (omega arith) (c .if3 .taken)) ∙ rw (l .inv .0) (o .inv .1))
+
+-- src/table.rt:36:13
 add-j : tie.Need-add-j Inv-loop μ-loop Inv-rows μ-rows
 add-j c = omega arith
 
--- src/table.rt:26:9
+-- src/table.rt:31:9
 loop-less : tie.Need-loop-less Inv-loop μ-loop Inv-rows μ-rows
 loop-less c = omega arith
 
--- src/table.rt:26:9
+-- src/table.rt:31:9
 loop-again : tie.Need-loop-again Inv-loop μ-loop Inv-rows μ-rows
 loop-again c =
     let l = c .before .before .before .before .loop in
-    (l .inv .0, omega arith, below-more _ _ (l .inv .2) (c .if2 .left))
+    (l .inv .0, omega arith, below-more _ _ (l .inv .2) (c .if3 .left))
 
 -- src/table.rt:16:1
 returns : tie.Need-returns Inv-loop μ-loop Inv-rows μ-rows
@@ -90,8 +121,8 @@ returns c =
 returns-2 : tie.Need-returns-2 Inv-loop μ-loop Inv-rows μ-rows
 returns-2 c =
     let l = c .before .loop in
-    let o = c .before .before .before .rows in
-    let a = c .before .before .before .before .args in
+    let o = c .before .before .before .before .before .before .rows in
+    let a = c .before .before .before .before .before .before .before .args in
     sym (found (a .table .now) (a .key .now) (a .rows) (l .i) (omega arith) (account-is (a .table .now) (a .key .now) (l .i) (omega arith) (omega arith) (λ j h. l .inv .2 j (omega arith)))) ∙ rw (l .inv .0) (o .inv .1)
 
 pub find-spec : {M : Type 1} → statement M
@@ -103,7 +134,6 @@ find-spec =
     Inv-rows
     μ-rows
     rows-holds
-    loop-holds
     mul-if2
     add-if2
     shared-slice-read-if2
@@ -111,6 +141,14 @@ find-spec =
     add-i
     rows-less
     rows-again
+    loop-holds
+    mul-if3
+    add-if3
+    shared-slice-read-if3
+    shared-slice-read-if3-2
+    add-i-2
+    rows-less-2
+    rows-again-2
     add-j
     loop-less
     loop-again

@@ -1,0 +1,44 @@
+use Rattle.ids.proofs.Rule.{ids-length}
+use lib.ListN.{length}
+use mathlib.Core.Path.{_∙_, ap}
+use native.Mathlib.Nat.{add-sub-cancel-left}
+use native.Mathlib.Omega.{arith}
+use borrow.Author.Needs.{needs}
+use Rattle.ids.proofs.is_row.Statement.{statement}
+use Rattle.ids.proofs.is_row.Tie as tie
+use Rattle.ids.proofs.is_row.Reads as reads
+use Rattle.ids.proofs.is_row.Lts as lts
+use Rattle.wire.proofs.equal.Reads as equal-reads
+
+-- src/lib.rt:75:14
+mul-at : tie.Need-mul-at
+mul-at c = search needs
+
+-- src/lib.rt:76:28
+add-equal : tie.Need-add-equal
+add-equal c = search needs
+
+-- src/lib.rt:76:17
+sub-equal : tie.Need-sub-equal
+sub-equal c = search needs
+
+-- src/lib.rt:76:17
+part-equal-start : tie.Need-part-equal-start
+part-equal-start c = search needs
+
+-- src/lib.rt:76:17
+part-equal-end : tie.Need-part-equal-end
+part-equal-end c = omega (arith, ap length (c .before .before .pre .0) ∙ ids-length)
+
+-- src/lib.rt:76:5
+equal-requires : tie.Need-equal-requires
+equal-requires c κs = search needs
+
+-- src/lib.rt:71:1
+returns : tie.Need-returns
+returns c = c .equal .ensures ∙ rw (c .before .before .before .before .pre .0, add-sub-cancel-left)
+
+pub is-row-spec : {M : Type 1} → statement M
+is-row-spec =
+    tie.close
+    (tie.spec mul-at add-equal sub-equal part-equal-start part-equal-end equal-requires returns)
