@@ -4,32 +4,47 @@ use crate::Key;
 
 const ALPHABET: &[u8; 58] = b"123456789ABCDEFGHJKLMNPQRSTUVWXYZabcdefghijkmnopqrstuvwxyz";
 
+/// The value of each letter, `NONE` where it has none.
+const DIGITS: [u8; 256] = digits();
+const NONE: u8 = 255;
+
+/// Five digits are the most that a step can take: 58 to the fifth still fits into 32 bits.
+const STEP: u64 = 58u64.pow(5);
+
 /// The 32 bytes of a text, if it is base58 of exactly 32 bytes.
 pub const fn decode(text: &str) -> Option<Key> {
     let text = text.as_bytes();
-    let mut key = [0u8; 32];
+    // The number so far, its highest 32 bits first.
+    let mut limbs = [0u32; 8];
     let mut ones = 0;
     let mut at = 0;
     while at < text.len() {
-        let Some(digit) = digit(text[at]) else {
-            return None;
-        };
-        if digit == 0 && ones == at {
-            ones += 1;
+        let (mut value, mut scale) = (0, 1);
+        while at < text.len() && scale < STEP {
+            let digit = DIGITS[text[at] as usize];
+            if digit == NONE {
+                return None;
+            }
+            if digit == 0 && ones == at {
+                ones += 1;
+            }
+            value = value * 58 + digit as u64;
+            scale *= 58;
+            at += 1;
         }
-        let mut carry = digit as u32;
-        let mut k = 32;
+        let mut carry = value;
+        let mut k = limbs.len();
         while k > 0 {
             k -= 1;
-            carry += key[k] as u32 * 58;
-            key[k] = carry as u8;
-            carry >>= 8;
+            carry += limbs[k] as u64 * scale;
+            limbs[k] = carry as u32;
+            carry >>= 32;
         }
         if carry != 0 {
             return None;
         }
-        at += 1;
     }
+    let key = bytes(&limbs);
     if ones == leading_zeros(&key) {
         Some(key)
     } else {
@@ -73,15 +88,24 @@ pub fn short(key: &Key) -> String {
     format!("{}..{}", &text[..4], &text[text.len() - 4..])
 }
 
-const fn digit(letter: u8) -> Option<u8> {
+const fn digits() -> [u8; 256] {
+    let mut digits = [NONE; 256];
     let mut value = 0;
-    while value < 58 {
-        if ALPHABET[value] == letter {
-            return Some(value as u8);
-        }
+    while value < ALPHABET.len() {
+        digits[ALPHABET[value] as usize] = value as u8;
         value += 1;
     }
-    None
+    digits
+}
+
+const fn bytes(limbs: &[u32; 8]) -> Key {
+    let mut key = [0; 32];
+    let mut k = 0;
+    while k < 32 {
+        key[k] = limbs[k / 4].to_be_bytes()[k % 4];
+        k += 1;
+    }
+    key
 }
 
 const fn leading_zeros(key: &Key) -> usize {
