@@ -1,3 +1,4 @@
 pub mod Keys
 pub mod Ids
 pub mod Which
+pub mod Cases
