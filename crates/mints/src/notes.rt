@@ -4,6 +4,7 @@ ghost use Prim.Native.Nat.{_+_, _*_, _/_, _≤_};
 ghost use mathlib.Core.Bool.{cond};
 ghost use lib.Dec.{ltb};
 ghost use lib.ListN.{length, getD};
+ghost use Rattle.ids.specs.Cases.{Cases};
 ghost use Rattle.ids.specs.Keys.{keyAt, keyOf};
 ghost use Rattle.mints.specs.Cells.{Fits};
 ghost use Rattle.mints.specs.Gather.{rowOf, noteAccount, observed, isPlain, tokenAt, Gathers};
@@ -143,10 +144,11 @@ fn is_plain(token: Token) -> bool
 }
 
 // The token instruction at an offset of the pack.
-fn token_at(keys: &[u8], pack: &[u8], at: usize) -> Token
+fn token_at(keys: &[u8], cases: &[u8; 256], pack: &[u8], at: usize) -> Token
+    requires { ⌜ Cases (now keys) (now cases) ⌝ }
     ensures { λ r. ⌜ r ≡ tokenAt (now (keys .entry)) (now (pack .entry)) at ⌝ }
 {
-    let id = ids::program(keys, pack::program(pack, at) as usize);
+    let id = ids::cases::program(keys, cases, pack::program(pack, at) as usize);
     let n = pack::accounts(pack, at).len();
     token::parse(id, n, pack::data(pack, at))
 }
@@ -172,6 +174,8 @@ pub(crate) fn gather(
     requires { ⌜ (length (now table) ≤ 65536) × Fits (now table) (now row) ⌝ }
     ensures { λ r. ⌜ Gathers (now (keys .entry)) (now (pack .entry)) (now (at .entry)) (now (row .entry)) (now (table .entry)) (now (from .entry)) (now (to .entry)) recorded (now (table .exit)) (now (from .exit)) (now (to .exit)) (r .room) (r .count) ⌝ }
 {
+    let mut cases = [0u8; 256];
+    ids::cases::fill(keys, &mut cases);
     let mut room = recorded;
     let mut count = 0;
     let mut i = 0;
@@ -179,7 +183,7 @@ pub(crate) fn gather(
         let o = at[i] as usize;
         i += 1;
         let accounts = pack::accounts(pack, o);
-        let token = token_at(keys, pack, o);
+        let token = token_at(keys, &cases, pack, o);
         room = observe(token, keys, accounts, row, table, room);
         if !is_plain(token) {
             continue;

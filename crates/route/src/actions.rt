@@ -5,6 +5,7 @@ use natives::Native;
 ghost use mathlib.Core.Path.{_≡_};
 ghost use Prim.Native.Nat.{_<_, _≤_};
 ghost use lib.ListN.{length};
+ghost use Rattle.ids.specs.Cases.{Cases};
 ghost use Rattle.pack.specs.Invocation.{instructionAt};
 ghost use Rattle.route.specs.Arrays.{itemAt};
 ghost use Rattle.route.specs.Known.{Puts, Fills};
@@ -25,6 +26,7 @@ fn count(native: Native) -> u8
 // Writes row k for the instruction at an offset, if it is an action. Answers how many rows that is.
 fn put_one(
     keys: &[u8],
+    cases: &[u8; 256],
     pack: &[u8],
     at: usize,
     i: u32,
@@ -32,10 +34,10 @@ fn put_one(
     out: &mut [u8],
     k: usize,
 ) -> u8
-    requires { ⌜ (length (now mints) ≡ 8192) × (k < 1024) ⌝ }
+    requires { ⌜ (length (now mints) ≡ 8192) × (k < 1024) × Cases (now keys) (now cases) ⌝ }
     ensures { λ r. ⌜ Puts (now (mints .entry)) (now (keys .entry)) (λ table. actionRows (now (keys .entry)) table i (instructionAt (now (pack .entry)) at)) 109 k r (now (out .entry)) (now (out .exit)) ⌝ }
 {
-    let id = ids::program(keys, wide(pack::program(pack, at)));
+    let id = ids::cases::program(keys, cases, wide(pack::program(pack, at)));
     let accounts = pack::accounts(pack, at);
     let data = pack::data(pack, at);
     let held = natives::acted(id, accounts, data);
@@ -47,19 +49,20 @@ fn put_one(
 // The rows of the n invocations. Answers how many there are.
 pub(crate) fn put_rows(
     keys: &[u8],
+    cases: &[u8; 256],
     pack: &[u8],
     n: usize,
     at: &[u32; 1024],
     mints: &[u8],
     out: &mut [u8],
 ) -> usize
-    requires { ⌜ (n ≤ 1024) × (length (now mints) ≡ 8192) ⌝ }
+    requires { ⌜ (n ≤ 1024) × (length (now mints) ≡ 8192) × Cases (now keys) (now cases) ⌝ }
     ensures { λ c. ⌜ Fills (now (mints .entry)) (now (keys .entry)) (actionRows (now (keys .entry))) (itemAt (now (pack .entry)) (now (at .entry))) 109 n c (now (out .entry)) (now (out .exit)) ⌝ }
 {
     let mut k = 0;
     let mut i = 0;
     while i < n {
-        let r = put_one(keys, pack, wide(at[i]), i as u32, mints, out, k);
+        let r = put_one(keys, cases, pack, wide(at[i]), i as u32, mints, out, k);
         k += wide(r as u32);
         i += 1;
     }

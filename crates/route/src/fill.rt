@@ -39,12 +39,15 @@ fn finish<'a>(
     ensures { λ r. ⌜ Finishes (now (names .entry)) (now (pack .entry)) (now (known .entry)) (now (at .entry)) (now (outer .entry)) (now (inner .entry)) (now (height .entry)) n room rows passes (record { mints = bytes; invocations = length (now (t1 .entry)); transfers = length (now (t2 .entry)); legs = length (now (t3 .entry)); natives = length (now (t4 .entry)) }) r (now (t1 .entry)) (now (t2 .entry)) (now (t3 .entry)) (now (t4 .entry)) (now (t1 .exit)) (now (t2 .exit)) (now (t3 .exit)) (now (t4 .exit)) ⌝ }
 {
     let keys = pack::section(pack, 0);
+    let mut cases = [0u8; 256];
+    ids::cases::fill(keys, &mut cases);
     let mut moved = [0u8; 1024];
-    let transfers = transfers::put_rows(keys, pack, n, at, known, t2, &mut moved);
+    let transfers = transfers::put_rows(keys, &cases, pack, n, at, known, t2, &mut moved);
     let mut leg = [0u32; 1024];
     let legs = legs::put_rows(
         names,
         keys,
+        &cases,
         pack,
         pack::section(pack, 4),
         n,
@@ -53,7 +56,7 @@ fn finish<'a>(
         t3,
         &mut leg,
     );
-    let natives = actions::put_rows(keys, pack, n, at, known, t4);
+    let natives = actions::put_rows(keys, &cases, pack, n, at, known, t4);
     let mut own = [0u8; 1024];
     invocations::put_own(n, &moved, &leg, &mut own);
     let mut ends = [0u32; 1024];
@@ -61,6 +64,7 @@ fn finish<'a>(
     let tests = subtrees::subtrees(n, outer, inner, height, &own, &mut ends, &mut inside);
     invocations::put_rows(
         keys,
+        &cases,
         pack,
         n,
         at,

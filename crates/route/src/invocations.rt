@@ -4,6 +4,7 @@ ghost use mathlib.Core.Path.{_≡_};
 ghost use Prim.Native.Nat.{ℕ, _<_, _≤_};
 ghost use lib.ListN.{getD};
 ghost use lib.Seq.{sets};
+ghost use Rattle.ids.specs.Cases.{Cases};
 ghost use Rattle.pack.specs.Invocation.{lowered, positionAt};
 ghost use Rattle.route.specs.Arrays.{ownFor, ownAt, ownBits, bitsAt, rowAt};
 ghost use Rattle.subtrees.specs.Subtrees.{tab};
@@ -126,6 +127,7 @@ pub(crate) fn wide(x: u32) -> usize
 // All bits of invocation i.
 fn bits(
     keys: &[u8],
+    cases: &[u8; 256],
     pack: &[u8],
     at: &[u32; 1024],
     inside: &[u8; 1024],
@@ -133,16 +135,19 @@ fn bits(
     leg: &[u32; 1024],
     i: usize,
 ) -> u8
-    requires { ⌜ (i < 1024) × (getD (now inside) i 0 ≤ 3) ⌝ }
+    requires { ⌜ (i < 1024) × (getD (now inside) i 0 ≤ 3) × Cases (now keys) (now cases) ⌝ }
     ensures { λ r. ⌜ r ≡ bitsAt (now (keys .entry)) (now (pack .entry)) (now (at .entry)) (now (inside .entry)) (now (moved .entry)) (now (leg .entry)) i ⌝ }
 {
     let program = pack::program(pack, wide(at[i]));
-    inside[i] + program_bits(ids::program(keys, program as usize)) + own_bits(moved[i], leg[i])
+    inside[i]
+        + program_bits(ids::cases::program(keys, cases, program as usize))
+        + own_bits(moved[i], leg[i])
 }
 
 // The rows of the n invocations.
 pub(crate) fn put_rows(
     keys: &[u8],
+    cases: &[u8; 256],
     pack: &[u8],
     n: usize,
     at: &[u32; 1024],
@@ -155,12 +160,12 @@ pub(crate) fn put_rows(
     leg: &[u32; 1024],
     out: &mut [u8],
 )
-    requires { ⌜ (n ≤ 1024) × ((i : ℕ) → getD (now inside) i 0 ≤ 3) ⌝ }
+    requires { ⌜ (n ≤ 1024) × ((i : ℕ) → getD (now inside) i 0 ≤ 3) × Cases (now keys) (now cases) ⌝ }
     ensures { λ _. ⌜ now (out .exit) ≡ placed 23 0 (tab (rowAt (now (keys .entry)) (now (pack .entry)) (now (at .entry)) (now (outer .entry)) (now (inner .entry)) (now (height .entry)) (now (ends .entry)) (now (inside .entry)) (now (moved .entry)) (now (leg .entry))) 0 n) (now (out .entry)) ⌝ }
 {
     let mut i = 0;
     while i < n {
-        let b = bits(keys, pack, at, inside, moved, leg, i);
+        let b = bits(keys, cases, pack, at, inside, moved, leg, i);
         put_row(
             out,
             i * 23,

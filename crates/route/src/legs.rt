@@ -5,6 +5,7 @@ use swaps::Found;
 ghost use mathlib.Core.Path.{_≡_};
 ghost use Prim.Native.Nat.{suc, _*_, _<_, _≤_};
 ghost use lib.ListN.{length};
+ghost use Rattle.ids.specs.Cases.{Cases};
 ghost use Rattle.pack.specs.Invocation.{instructionAt};
 ghost use Rattle.swaps.specs.Row.{poolsOf};
 ghost use Rattle.route.specs.Arrays.{itemAt};
@@ -15,6 +16,7 @@ ghost use Rattle.route.specs.Legs.{legRows};
 fn put_one<'a>(
     names: &[u8],
     keys: &'a [u8],
+    cases: &[u8; 256],
     pack: &[u8],
     pools: &[u8],
     at: usize,
@@ -23,11 +25,11 @@ fn put_one<'a>(
     out: &mut [u8],
     k: usize,
 ) -> u8
-    requires { ⌜ (length (now mints) ≡ 8192) × (k < 1024) ⌝ }
+    requires { ⌜ (length (now mints) ≡ 8192) × (k < 1024) × Cases (now keys) (now cases) ⌝ }
     ensures { λ r. ⌜ Puts (now (mints .entry)) (now (keys .entry)) (λ table. legRows (now (names .entry)) (now (keys .entry)) (poolsOf (now (pools .entry))) table i (instructionAt (now (pack .entry)) at)) 250 k r (now (out .entry)) (now (out .exit)) ⌝ }
 {
     let program = wide(pack::program(pack, at));
-    let id = ids::program(keys, program);
+    let id = ids::cases::program(keys, cases, program);
     let found = swaps::leg(
         names,
         keys,
@@ -61,6 +63,7 @@ fn number(r: u8, k: usize) -> u32
 pub(crate) fn put_rows<'a>(
     names: &[u8],
     keys: &'a [u8],
+    cases: &[u8; 256],
     pack: &[u8],
     pools: &[u8],
     n: usize,
@@ -69,7 +72,7 @@ pub(crate) fn put_rows<'a>(
     out: &mut [u8],
     leg: &mut [u32; 1024],
 ) -> usize
-    requires { ⌜ (n ≤ 1024) × (length (now mints) ≡ 8192) ⌝ }
+    requires { ⌜ (n ≤ 1024) × (length (now mints) ≡ 8192) × Cases (now keys) (now cases) ⌝ }
     ensures { λ c. ⌜ Fills (now (mints .entry)) (now (keys .entry)) (legRows (now (names .entry)) (now (keys .entry)) (poolsOf (now (pools .entry)))) (itemAt (now (pack .entry)) (now (at .entry))) 250 n c (now (out .entry)) (now (out .exit)) ⌝ }
     ensures { λ _. ⌜ Numbers (now (mints .entry)) (now (keys .entry)) (legRows (now (names .entry)) (now (keys .entry)) (poolsOf (now (pools .entry)))) (itemAt (now (pack .entry)) (now (at .entry))) n (now (leg .entry)) (now (leg .exit)) ⌝ }
 {
@@ -79,6 +82,7 @@ pub(crate) fn put_rows<'a>(
         let r = put_one(
             names,
             keys,
+            cases,
             pack,
             pools,
             wide(at[i]),

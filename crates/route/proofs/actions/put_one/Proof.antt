@@ -6,6 +6,7 @@ use Rattle.natives.proofs.Laws.{native-is}
 use Rattle.natives.specs.Numbers.{valueOf, actedOf}
 use Rattle.evidence.specs.MintTable.{MintRow, mintIn}
 use Rattle.pack.specs.Invocation.{Instruction, instructionAt}
+use Rattle.ids.specs.Cases.{case-in}
 use Rattle.ids.specs.Keys.{keyOf, keyCount}
 use mathlib.Core.List.{List}
 use mathlib.Core.Path.{_≡_, sym, _∙_}
@@ -16,7 +17,7 @@ use Rattle.route.proofs.actions.put_one.Statement.{statement}
 use Rattle.route.proofs.actions.put_one.Tie as tie
 use Rattle.route.proofs.actions.put_one.Reads as reads
 use Rattle.route.proofs.actions.put_one.Lts as lts
-use Rattle.ids.proofs.program.Reads as program-reads
+use Rattle.ids.proofs.cases.program.Reads as cases-program-reads
 use Rattle.natives.proofs.acted.Reads as acted-reads
 use Rattle.natives.proofs.action.Reads as action-reads
 use Rattle.natives.proofs.put_row.Reads as put-row-reads
@@ -81,7 +82,7 @@ item c = instructionAt (c .before .before .before .before .before .before .befor
 
 -- the account whose mint is looked up
 held : (c : tie.After-count) → c .before .before .before .before .before .before .before .acted .result ≡ actedOf (programOf (c .before .before .before .before .before .before .before .before .before .before .before .before .before .before .before .before .before .args .keys .now) (item c)) (item c .accounts) (item c .bytes)
-held c = c .before .before .before .before .before .before .before .acted .ensures ∙ rw (c .before .before .before .before .before .before .before .before .before .accounts .ensures, c .before .before .before .before .before .before .before .before .«data» .ensures, c .before .before .before .before .before .before .before .before .before .before .program2 .ensures, c .before .before .before .before .before .before .before .before .before .before .before .wide .ensures, c .before .before .before .before .before .before .before .before .before .before .before .before .program .ensures)
+held c = c .before .before .before .before .before .before .before .acted .ensures ∙ rw (c .before .before .before .before .before .before .before .before .before .accounts .ensures, c .before .before .before .before .before .before .before .before .«data» .ensures, c .before .before .before .before .before .before .before .before .before .before .program2 .ensures, case-in (c .before .before .before .before .before .before .before .before .before .before .before .before .before .before .before .before .before .args .keys .now) (c .before .before .before .before .before .before .before .before .before .before .before .before .before .before .before .before .before .args .cases .now) (c .before .before .before .before .before .before .before .before .before .before .before .wide .result) (c .before .before .before .before .before .before .before .before .before .before .before .before .before .before .before .before .before .pre .2), c .before .before .before .before .before .before .before .before .before .before .before .wide .ensures, c .before .before .before .before .before .before .before .before .before .before .before .before .program .ensures)
 
 -- what is found is the instruction's action
 value : (c : tie.After-count) (table : List MintRow) → Holds (c .before .before .before .before .before .before .before .before .before .before .before .before .before .before .before .before .before .args .mints .now) (c .before .before .before .before .before .before .before .before .before .before .before .before .before .before .before .before .before .args .keys .now) table → valueOf (keyOf (c .before .before .before .before .before .before .before .before .before .before .before .before .before .before .before .before .before .args .keys .now)) (c .before .before .before .before .before .action .result) ≡ actionOf (c .before .before .before .before .before .before .before .before .before .before .before .before .before .before .before .before .before .args .keys .now) table (item c)
@@ -92,7 +93,7 @@ value c table h =
     let i = actedOf (programOf ks x) (x .accounts) (x .bytes) in
     let small : i < 256 = rw (← (held c)) (omega arith) in
     rw
-    (c .before .before .before .before .before .action .ensures .0, c .before .before .before .before .before .before .mint .ensures, held c, h i small, c .before .before .before .before .before .before .before .before .before .accounts .ensures, c .before .before .before .before .before .before .before .before .«data» .ensures, c .before .before .before .before .before .before .before .before .before .before .program2 .ensures, c .before .before .before .before .before .before .before .before .before .before .before .wide .ensures, c .before .before .before .before .before .before .before .before .before .before .before .before .program .ensures)
+    (c .before .before .before .before .before .action .ensures .0, c .before .before .before .before .before .before .mint .ensures, held c, h i small, c .before .before .before .before .before .before .before .before .before .accounts .ensures, c .before .before .before .before .before .before .before .before .«data» .ensures, c .before .before .before .before .before .before .before .before .before .before .program2 .ensures, case-in (c .before .before .before .before .before .before .before .before .before .before .before .before .before .before .before .before .before .args .keys .now) (c .before .before .before .before .before .before .before .before .before .before .before .before .before .before .before .before .before .args .cases .now) (c .before .before .before .before .before .before .before .before .before .before .before .wide .result) (c .before .before .before .before .before .before .before .before .before .before .before .before .before .before .before .before .before .pre .2), c .before .before .before .before .before .before .before .before .before .before .before .wide .ensures, c .before .before .before .before .before .before .before .before .before .before .before .before .program .ensures)
     (sym (native-is (keyOf ks) (keyCount ks) (programOf ks x) (x .accounts) (x .bytes) (mintIn table)))
 
 -- src/actions.rt:26:1

@@ -14,11 +14,11 @@ use Rattle.route.proofs.actions.put_one.Reads as put-one-reads
 use Rattle.route.proofs.invocations.wide.Reads as wide-reads
 
 abbrev Inv-loop : tie.InvT-loop
-Inv-loop keys pack n at mints out₀ k₀ i₀ out k i =
+Inv-loop keys cases pack n at mints out₀ k₀ i₀ out k i =
     (i ≤ n) × (k ≤ i) × (length out ≡ length out₀) × Fills mints keys (actionRows keys) (itemAt pack at) 109 i k out₀ out
 
 abbrev μ-loop : tie.MeasureT-loop
-μ-loop keys pack n at mints out₀ k₀ i₀ out k i = n - i
+μ-loop keys cases pack n at mints out₀ k₀ i₀ out k i = n - i
 
 -- src/actions.rt:46:5
 loop-holds : tie.Need-loop-holds Inv-loop μ-loop
@@ -44,7 +44,7 @@ cast-put-one c = omega arith
 
 -- src/actions.rt:47:13
 put-one-requires : tie.Need-put-one-requires Inv-loop μ-loop
-put-one-requires c κs = (c .before .before .before .before .before .before .before .before .before .pre .1, omega arith)
+put-one-requires c κs = (c .before .before .before .before .before .before .before .before .before .pre .1, omega arith, c .before .before .before .before .before .before .before .before .before .pre .2)
 
 -- src/actions.rt:48:19
 cast-wide : tie.Need-cast-wide Inv-loop μ-loop
@@ -74,11 +74,11 @@ loop-again c =
     let f = actionRows (a .keys .now) in
     let x = itemAt (a .pack .now) (a .at .now) in
     let r = c .before .before .before .put-one .result in
-    let one : Puts (a .mints .now) (a .keys .now) (λ table. f table (l .i) (x (l .i))) 109 (l .k) r (l .out) (c .before .before .before .put-one .last .1 .1 .1 .1 .1 .0) =
+    let one : Puts (a .mints .now) (a .keys .now) (λ table. f table (l .i) (x (l .i))) 109 (l .k) r (l .out) (c .before .before .before .put-one .last .1 .1 .1 .1 .1 .1 .0) =
     rw (c .before .before .before .before .before .wide .ensures) at (c .before .before .before .put-one .ensures) in (
       omega arith,
       omega (arith, c .wide2 .ensures, one .few),
-      c .before .before .before .put-one .kept .1 .1 .1 .1 .1 .0 ∙ l .inv .2,
+      c .before .before .before .put-one .kept .1 .1 .1 .1 .1 .1 .0 ∙ l .inv .2,
       rw (c .wide2 .ensures) (fills-more (a .mints .now) (a .keys .now) f x 109 (l .i) (l .k) r (a .out .now) (l .out) _ (l .inv .3) one),
     )
 

@@ -1,5 +1,6 @@
 use Rattle.route.specs.Arrays.{bitsAt}
 use Rattle.route.proofs.Row.{programBits-le, ownBits-le}
+use Rattle.ids.specs.Cases.{case-in}
 use lib.ListN.{getD}
 use native.Mathlib.Omega.{arith}
 use borrow.Author.Needs.{needs}
@@ -7,7 +8,7 @@ use Rattle.route.proofs.invocations.bits.Statement.{statement}
 use Rattle.route.proofs.invocations.bits.Tie as tie
 use Rattle.route.proofs.invocations.bits.Reads as reads
 use Rattle.route.proofs.invocations.bits.Lts as lts
-use Rattle.ids.proofs.program.Reads as program-reads
+use Rattle.ids.proofs.cases.program.Reads as cases-program-reads
 use Rattle.pack.proofs.program.Reads as item-program-reads
 use Rattle.route.proofs.invocations.own_bits.Reads as own-bits-reads
 use Rattle.route.proofs.invocations.program_bits.Reads as program-bits-reads
@@ -81,7 +82,7 @@ add-result-2 c =
 -- src/invocations.rt:89:1
 returns : tie.Need-returns
 unfolding bitsAt
-returns c = rw (c .own-bits .ensures, c .before .before .before .program-bits .ensures, c .before .before .before .before .program2 .ensures, c .before .before .before .before .before .before .program .ensures, c .before .before .before .before .before .before .before .wide .ensures)
+returns c = rw (c .own-bits .ensures, c .before .before .before .program-bits .ensures, c .before .before .before .before .program2 .ensures, case-in (c .before .before .before .before .before .before .before .before .before .before .before .args .keys .now) (c .before .before .before .before .before .before .before .before .before .before .before .args .cases .now) (c .before .before .before .before .before .before .program .result) (c .before .before .before .before .before .before .before .before .before .before .before .pre .2), c .before .before .before .before .before .before .program .ensures, c .before .before .before .before .before .before .before .wide .ensures)
 
 pub bits-spec : {M : Type 1} → statement M
 bits-spec =

@@ -15,11 +15,11 @@ use Rattle.route.proofs.invocations.bits.Reads as bits-reads
 use Rattle.route.proofs.invocations.put_row.Reads as put-row-reads
 
 abbrev Inv-loop : tie.InvT-loop
-Inv-loop keys pack n at outer inner height ends inside moved leg out₀ i₀ out i =
+Inv-loop keys cases pack n at outer inner height ends inside moved leg out₀ i₀ out i =
     (i ≤ n) × (length out ≡ length out₀) × (out ≡ placed 23 0 (tab (rowAt keys pack at outer inner height ends inside moved leg) 0 i) out₀)
 
 abbrev μ-loop : tie.MeasureT-loop
-μ-loop keys pack n at outer inner height ends inside moved leg out₀ i₀ out i = n - i
+μ-loop keys cases pack n at outer inner height ends inside moved leg out₀ i₀ out i = n - i
 
 -- src/invocations.rt:109:5
 loop-holds : tie.Need-loop-holds Inv-loop μ-loop
@@ -28,7 +28,7 @@ loop-holds c = (omega arith, refl, refl)
 
 -- src/invocations.rt:110:13
 bits-requires : tie.Need-bits-requires Inv-loop μ-loop
-bits-requires c κs = (omega arith, c .before .before .before .before .before .pre .1 (c .before .loop .i))
+bits-requires c κs = (omega arith, c .before .before .before .before .before .pre .1 (c .before .loop .i), c .before .before .before .before .before .pre .2)
 
 -- src/invocations.rt:111:22
 mul-put-row : tie.Need-mul-put-row Inv-loop μ-loop

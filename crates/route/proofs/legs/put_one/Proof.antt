@@ -11,6 +11,7 @@ use Rattle.swaps.specs.Leg.{legWith}
 use Rattle.swaps.specs.declared.Swap.{Swap}
 use Rattle.evidence.specs.MintTable.{MintRow, mintIn}
 use Rattle.pack.specs.Invocation.{Instruction, instructionAt}
+use Rattle.ids.specs.Cases.{case-in}
 use Rattle.ids.specs.Keys.{Key, keyOf}
 use Rattle.ids.specs.Mints.{mintOf}
 use mathlib.Core.List.{List}
@@ -23,7 +24,7 @@ use Rattle.route.proofs.legs.put_one.Statement.{statement}
 use Rattle.route.proofs.legs.put_one.Tie as tie
 use Rattle.route.proofs.legs.put_one.Reads as reads
 use Rattle.route.proofs.legs.put_one.Lts as lts
-use Rattle.ids.proofs.program.Reads as program-reads
+use Rattle.ids.proofs.cases.program.Reads as cases-program-reads
 use Rattle.pack.proofs.accounts.Reads as accounts-reads
 use Rattle.pack.proofs.data.Reads as data-reads
 use Rattle.pack.proofs.program.Reads as item-program-reads
@@ -89,7 +90,7 @@ returns c =
     let ks = a .keys .now in
     let pools = poolsOf (a .pools .now) in
     let e : legIn (a .names .now) (keyOf ks) (programOf ks x) (x .accounts) (x .bytes) ≡ Nothing =
-    sym (c .before .before .leg .ensures ∙ rw (c .before .before .before .before .accounts .ensures, c .before .before .before .«data» .ensures, c .before .before .before .before .before .program2 .ensures, c .before .before .before .before .before .before .wide .ensures, c .before .before .before .before .before .before .before .program .ensures)) ∙ c .enum-told .given .1 in
+    sym (c .before .before .leg .ensures ∙ rw (c .before .before .before .before .accounts .ensures, c .before .before .before .«data» .ensures, c .before .before .before .before .before .program2 .ensures, case-in (a .keys .now) (a .cases .now) (c .before .before .before .before .before .before .wide .result) (c .before .before .before .before .before .before .before .before .before .before .before .before .before .before .pre .2), c .before .before .before .before .before .before .wide .ensures, c .before .before .before .before .before .before .before .program .ensures)) ∙ c .enum-told .given .1 in
     record {
       few = omega arith;
       counted = λ table h. rw (leg-swap (a .names .now) ks pools table x, no-leg (a .names .now) (keyOf ks) (programOf ks x) (x .accounts) (x .bytes) (mintIn table) pools e);
@@ -120,7 +121,7 @@ returns-2 c =
     let pools = poolsOf (a .pools .now) in
     let s = c .before .before .before .before .before .before .before .found .given .0 .0 in
     let e : legIn (a .names .now) (keyOf ks) (programOf ks x) (x .accounts) (x .bytes) ≡ Leg s =
-    sym (c .before .before .before .before .before .before .before .before .before .leg .ensures ∙ rw (c .before .before .before .before .before .before .before .before .before .before .before .accounts .ensures, c .before .before .before .before .before .before .before .before .before .before .«data» .ensures, c .before .before .before .before .before .before .before .before .before .before .before .before .program2 .ensures, c .before .before .before .before .before .before .before .before .before .before .before .before .before .wide .ensures, c .before .before .before .before .before .before .before .before .before .before .before .before .before .before .program .ensures)) ∙ c .before .before .before .before .before .before .before .found .given .1 in
+    sym (c .before .before .before .before .before .before .before .before .before .leg .ensures ∙ rw (c .before .before .before .before .before .before .before .before .before .before .before .accounts .ensures, c .before .before .before .before .before .before .before .before .before .before .«data» .ensures, c .before .before .before .before .before .before .before .before .before .before .before .before .program2 .ensures, case-in (a .keys .now) (a .cases .now) (c .before .before .before .before .before .before .before .before .before .before .before .before .before .wide .result) (c .before .before .before .before .before .before .before .before .before .before .before .before .before .before .before .before .before .before .before .before .before .pre .2), c .before .before .before .before .before .before .before .before .before .before .before .before .before .wide .ensures, c .before .before .before .before .before .before .before .before .before .before .before .before .before .before .program .ensures)) ∙ c .before .before .before .before .before .before .before .found .given .1 in
     let small : s .input < 256 = omega (arith, c .before .before .before .before .before .before .known-told .given) in
     let small2 : s .output < 256 = omega (arith, c .before .before .before .before .before .before .known-told .given) in
     record {

@@ -16,11 +16,11 @@ use Rattle.route.proofs.legs.number.Reads as number-reads
 use Rattle.route.proofs.legs.put_one.Reads as put-one-reads
 
 abbrev Inv-loop : tie.InvT-loop
-Inv-loop names keys pack pools n at mints out₀ leg₀ k₀ i₀ out leg k i =
+Inv-loop names keys cases pack pools n at mints out₀ leg₀ k₀ i₀ out leg k i =
     (i ≤ n) × (k ≤ i) × (length out ≡ length out₀) × Fills mints keys (legRows names keys (poolsOf pools)) (itemAt pack at) 250 i k out₀ out × Numbers mints keys (legRows names keys (poolsOf pools)) (itemAt pack at) i leg₀ leg
 
 abbrev μ-loop : tie.MeasureT-loop
-μ-loop names keys pack pools n at mints out₀ leg₀ k₀ i₀ out leg k i = n - i
+μ-loop names keys cases pack pools n at mints out₀ leg₀ k₀ i₀ out leg k i = n - i
 
 -- src/legs.rt:72:5
 loop-holds : tie.Need-loop-holds Inv-loop μ-loop
@@ -51,7 +51,7 @@ cast-put-one c = omega arith
 
 -- src/legs.rt:73:13
 put-one-requires : tie.Need-put-one-requires Inv-loop μ-loop
-put-one-requires c κs = (c .before .before .before .before .before .before .before .before .before .before .before .pre .1, omega arith)
+put-one-requires c κs = (c .before .before .before .before .before .before .before .before .before .before .before .pre .1, omega arith, c .before .before .before .before .before .before .before .before .before .before .before .pre .2)
 
 -- src/legs.rt:74:18
 number-requires : tie.Need-number-requires Inv-loop μ-loop
@@ -93,11 +93,11 @@ loop-again c =
     let f = legRows (a .names .now) (a .keys .now) (poolsOf (a .pools .now)) in
     let x = itemAt (a .pack .now) (a .at .now) in
     let r = c .before .before .before .before .put-one .result in
-    let one : Puts (a .mints .now) (a .keys .now) (λ table. f table (l .i) (x (l .i))) 250 (l .k) r (l .out) (c .before .before .before .before .put-one .last .1 .1 .1 .1 .1 .1 .1 .0) =
+    let one : Puts (a .mints .now) (a .keys .now) (λ table. f table (l .i) (x (l .i))) 250 (l .k) r (l .out) (c .before .before .before .before .put-one .last .1 .1 .1 .1 .1 .1 .1 .1 .0) =
     rw (c .before .before .before .before .before .before .wide .ensures) at (c .before .before .before .before .put-one .ensures) in (
       omega arith,
       omega (arith, c .wide2 .ensures, one .few),
-      c .before .before .before .before .put-one .kept .1 .1 .1 .1 .1 .1 .1 .0 ∙ l .inv .2,
+      c .before .before .before .before .put-one .kept .1 .1 .1 .1 .1 .1 .1 .1 .0 ∙ l .inv .2,
       rw (c .wide2 .ensures) (fills-more (a .mints .now) (a .keys .now) f x 250 (l .i) (l .k) r (a .out .now) (l .out) _ (l .inv .3) one),
       rw (c .before .number .ensures) (numbers-more (a .mints .now) (a .keys .now) f x 250 (l .i) (l .k) r (a .out .now) (l .out) _ (a .leg .now) (l .leg) (l .inv .4) (l .inv .3) one),
     )

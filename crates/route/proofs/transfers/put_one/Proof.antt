@@ -6,6 +6,7 @@ use Rattle.token.specs.Moved.{valueOf, sourceBy}
 use Rattle.ids.specs.Mints.{mintOf}
 use Rattle.evidence.specs.MintTable.{mintIn}
 use Rattle.pack.specs.Invocation.{instructionAt}
+use Rattle.ids.specs.Cases.{case-in}
 use Rattle.ids.specs.Keys.{keyOf}
 use mathlib.Core.Path.{_≡_, _∙_}
 use borrow.Author.Needs.{needs}
@@ -13,7 +14,7 @@ use Rattle.route.proofs.transfers.put_one.Statement.{statement}
 use Rattle.route.proofs.transfers.put_one.Tie as tie
 use Rattle.route.proofs.transfers.put_one.Reads as reads
 use Rattle.route.proofs.transfers.put_one.Lts as lts
-use Rattle.ids.proofs.program.Reads as program-reads
+use Rattle.ids.proofs.cases.program.Reads as cases-program-reads
 use Rattle.pack.proofs.accounts.Reads as accounts-reads
 use Rattle.pack.proofs.data.Reads as data-reads
 use Rattle.pack.proofs.program.Reads as item-program-reads
@@ -74,7 +75,7 @@ same-length c = search needs
 -- what is moved is the instruction's transfer
 value : (c : tie.After-count) → valueOf (keyOf (c .before .before .before .before .before .before .before .before .before .before .before .before .before .before .before .before .args .keys .now)) (c .before .before .before .before .before .before .before .transfer .result) ≡ transferOf (c .before .before .before .before .before .before .before .before .before .before .before .before .before .before .before .before .args .keys .now) (instructionAt (c .before .before .before .before .before .before .before .before .before .before .before .before .before .before .before .before .args .pack .now) (c .before .before .before .before .before .before .before .before .before .before .before .before .before .before .before .before .args .at))
 unfolding transferOf
-value c = c .before .before .before .before .before .before .before .transfer .ensures .1 ∙ rw (c .before .before .before .before .before .before .before .before .before .accounts .ensures, c .before .before .before .before .before .before .before .before .«data» .ensures, c .before .before .before .before .before .before .before .before .before .before .program2 .ensures, c .before .before .before .before .before .before .before .before .before .before .before .program .ensures)
+value c = c .before .before .before .before .before .before .before .transfer .ensures .1 ∙ rw (c .before .before .before .before .before .before .before .before .before .accounts .ensures, c .before .before .before .before .before .before .before .before .«data» .ensures, c .before .before .before .before .before .before .before .before .before .before .program2 .ensures, case-in (c .before .before .before .before .before .before .before .before .before .before .before .before .before .before .before .before .args .keys .now) (c .before .before .before .before .before .before .before .before .before .before .before .before .before .before .before .before .args .cases .now) (c .before .before .before .before .before .before .before .before .before .before .before .program .result) (c .before .before .before .before .before .before .before .before .before .before .before .before .before .before .before .before .pre .2), c .before .before .before .before .before .before .before .before .before .before .before .program .ensures)
 
 -- src/transfers.rt:42:1
 returns : tie.Need-returns

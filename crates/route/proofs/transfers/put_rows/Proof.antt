@@ -14,11 +14,11 @@ use Rattle.route.proofs.invocations.wide.Reads as wide-reads
 use Rattle.route.proofs.transfers.put_one.Reads as put-one-reads
 
 abbrev Inv-loop : tie.InvT-loop
-Inv-loop keys pack n at mints out₀ moved₀ k₀ i₀ out moved k i =
+Inv-loop keys cases pack n at mints out₀ moved₀ k₀ i₀ out moved k i =
     (i ≤ n) × (k ≤ i) × (length out ≡ length out₀) × Fills mints keys (transferRows keys) (itemAt pack at) 150 i k out₀ out × Counts mints keys (transferRows keys) (itemAt pack at) i moved₀ moved
 
 abbrev μ-loop : tie.MeasureT-loop
-μ-loop keys pack n at mints out₀ moved₀ k₀ i₀ out moved k i = n - i
+μ-loop keys cases pack n at mints out₀ moved₀ k₀ i₀ out moved k i = n - i
 
 -- src/transfers.rt:63:5
 loop-holds : tie.Need-loop-holds Inv-loop μ-loop
@@ -49,7 +49,7 @@ cast-put-one c = omega arith
 
 -- src/transfers.rt:64:13
 put-one-requires : tie.Need-put-one-requires Inv-loop μ-loop
-put-one-requires c κs = (c .before .before .before .before .before .before .before .before .before .pre .1, omega arith)
+put-one-requires c κs = (c .before .before .before .before .before .before .before .before .before .pre .1, omega arith, c .before .before .before .before .before .before .before .before .before .pre .2)
 
 -- src/transfers.rt:65:9
 element-write-moved : tie.Need-element-write-moved Inv-loop μ-loop
@@ -83,11 +83,11 @@ loop-again c =
     let f = transferRows (a .keys .now) in
     let x = itemAt (a .pack .now) (a .at .now) in
     let r = c .before .before .before .put-one .result in
-    let one : Puts (a .mints .now) (a .keys .now) (λ table. f table (l .i) (x (l .i))) 150 (l .k) r (l .out) (c .before .before .before .put-one .last .1 .1 .1 .1 .1 .0) =
+    let one : Puts (a .mints .now) (a .keys .now) (λ table. f table (l .i) (x (l .i))) 150 (l .k) r (l .out) (c .before .before .before .put-one .last .1 .1 .1 .1 .1 .1 .0) =
     rw (c .before .before .before .before .before .wide .ensures) at (c .before .before .before .put-one .ensures) in (
       omega arith,
       omega (arith, c .wide2 .ensures, one .few),
-      c .before .before .before .put-one .kept .1 .1 .1 .1 .1 .0 ∙ l .inv .2,
+      c .before .before .before .put-one .kept .1 .1 .1 .1 .1 .1 .0 ∙ l .inv .2,
       rw (c .wide2 .ensures) (fills-more (a .mints .now) (a .keys .now) f x 150 (l .i) (l .k) r (a .out .now) (l .out) _ (l .inv .3) one),
       counts-more (a .mints .now) (a .keys .now) f x 150 (l .i) (l .k) r (l .out) _ (a .moved .now) (l .moved) (l .inv .4) one,
     )
