@@ -1,7 +1,7 @@
 -- An action in numbers is the Rust's action: the accounts that it names are there, and only the acted account's mint is looked at.
 -- Assumes nothing.
 use mathlib.Core.Path.{_≡_, refl, sym, ap, subst, _∙_}
-use mathlib.Core.Bool.{Bool, true, false, cond, _&&_, and-false}
+use mathlib.Core.Bool.{Bool, true, false, cond, _&&_, _||_, and-false, false≢true}
 use mathlib.Core.List.{List, [], _∷_}
 use mathlib.Core.Option.{Option, none, some}
 use Prim.Native.Nat.{ℕ, _+_, _≤_, _<_}
@@ -21,7 +21,7 @@ use Rattle.token.specs.Published.{starts}
 use Rattle.ids.specs.Mints.{isMint, mintOf}
 use Rattle.token.proofs.Laws.{there}
 use Rattle.natives.specs.Natives.{isSystem, funds, syncs, closes, asked, allBelow, wrapped, counted, nativeAction}
-use Rattle.natives.specs.Numbers.{valueOf, formOf, heldBy, actedOf, actionOf}
+use Rattle.natives.specs.Numbers.{valueOf, formOf, heldBy, isNothing, actedOf, actionOf}
 use Rattle.natives.specs.declared.Native.{Native}
 use Rattle.natives.specs.declared.Native.the-variants.{Nothing, Fund, Sync, Close}
 
@@ -77,6 +77,16 @@ pub native-is : (κ : ℕ → Key) (count : ℕ) (id : Id) (accounts d : List �
 unfolding nativeAction actionOf actedOf
 native-is κ count id accounts d μ = rw (← form-value κ id accounts d) (counted-value κ count accounts μ (formOf id accounts d))
 
+-- no other program has an action
+pub idle : (κ : ℕ → Key) (count : ℕ) (id : Id) (accounts d : List ℕ) (μ : Key → Option Key) → (isToken id || isSystem id) ≡ false → nativeAction κ count id accounts d μ ≡ none
+unfolding nativeAction counted asked funds syncs closes
+idle κ count id accounts d μ e = go (isToken id) refl (isSystem id) refl e
+  where
+    go : (t : Bool) → isToken id ≡ t → (s : Bool) → isSystem id ≡ s → (t || s) ≡ false → nativeAction κ count id accounts d μ ≡ none
+    go true p s q f = absurd (false≢true (sym f))
+    go false p true q f = absurd (false≢true (sym f))
+    go false p false q f = rw (p, q)
+
 -- a mint that is handed over as bytes
 wsol-known : mintOf (idAt 2) ≡ some (idAt 2)
 unfolding mintOf isMint zeroKey ids same
@@ -109,6 +119,17 @@ module _ (κ : ℕ → Key) (count : ℕ) (id : Id) (accounts d m : List ℕ) wh
   -- a result that is the numbers' has the value that the Rust gives
   pub tells : {r : Native} → r ≡ actionOf count id accounts d (mintOf m) → (r ≡ actionOf count id accounts d (mintOf m)) × (valueOf κ r ≡ nativeAction κ count id accounts d (λ _. mintOf m))
   tells e = (e, ap (valueOf κ) e ∙ sym (native-is κ count id accounts d (λ _. mintOf m)))
+
+  pub no-form : isNothing (formOf id accounts d) ≡ true → Nothing ≡ actionOf count id accounts d (mintOf m)
+  unfolding actionOf
+  no-form e = go (formOf id accounts d) e (allBelow count accounts && wrapped (mintOf m))
+    where
+      go : (f : Native) → isNothing f ≡ true → (b : Bool) → Nothing ≡ cond b f Nothing
+      go Nothing q true = refl
+      go Nothing q false = refl
+      go (Fund h s l) q b = absurd (false≢true q)
+      go (Sync h) q b = absurd (false≢true q)
+      go (Close h s a) q b = absurd (false≢true q)
 
   pub other-mint : same (idAt 2) m ≡ false → Nothing ≡ actionOf count id accounts d (mintOf m)
   unfolding actionOf

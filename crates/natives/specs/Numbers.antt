@@ -1,7 +1,7 @@
 -- An action in numbers: accounts by their index bytes. `valueOf` gives each case its value.
 -- Assumes nothing.
 use Prim.Native.Nat.{ℕ}
-use mathlib.Core.Bool.{cond, _&&_}
+use mathlib.Core.Bool.{Bool, true, false, cond, _&&_}
 use mathlib.Core.List.{List}
 use mathlib.Core.Option.{Option, none, some}
 use lib.ListN.{length, getD}
@@ -26,6 +26,13 @@ formOf id accounts d =
     (cond (syncs id (length accounts) d) (Sync (getD accounts 0 0))
     (cond (closes id (length accounts) d) (Close (getD accounts 0 0) (getD accounts 1 0) (getD accounts 2 0))
     Nothing))
+
+-- whether that is no action
+abbrev pub isNothing : Native → Bool
+isNothing Nothing = true
+isNothing (Fund h s l) = false
+isNothing (Sync h) = false
+isNothing (Close h d a) = false
 
 -- the index of the account that is acted on; 0 where there is no action, whose mint then does not matter
 abbrev pub heldBy : Native → ℕ

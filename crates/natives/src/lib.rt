@@ -2,7 +2,7 @@
 //
 // Every function is total. The acted account's final mint is handed in: `acted` tells whose it is.
 ghost use mathlib.Core.Path.{_≡_};
-ghost use mathlib.Core.Bool.{_&&_};
+ghost use mathlib.Core.Bool.{_&&_, _||_};
 ghost use mathlib.Core.List.{[], _∷_};
 ghost use Prim.Native.Nat.{_<_};
 ghost use lib.Dec.{leb, ltb};
@@ -13,7 +13,7 @@ ghost use Rattle.ids.specs.Keys.{keyOf, keyCount};
 ghost use Rattle.ids.specs.Mints.{mintOf};
 ghost use Rattle.token.specs.Programs.{isToken};
 ghost use Rattle.natives.specs.Natives.{isSystem, funds as fundsOf, allBelow, nativeAction};
-ghost use Rattle.natives.specs.Numbers.{valueOf, formOf, heldBy, actedOf, actionOf};
+ghost use Rattle.natives.specs.Numbers.{valueOf, formOf, heldBy, isNothing, actedOf, actionOf};
 ghost use Rattle.natives.specs.Rows.{fieldsOf, rowsOf};
 use ids::Id;
 
@@ -34,6 +34,13 @@ fn system(id: Id) -> bool
         Id::Unresolved => false,
         _ => false,
     }
+}
+
+// Whether a program has instructions that are actions.
+pub fn acts(id: Id) -> bool
+    ensures { λ r. ⌜ r ≡ (isToken id || isSystem id) ⌝ }
+{
+    token::token_program(id) || system(id)
 }
 
 fn funds(id: Id, n: usize, data: &[u8]) -> bool
@@ -103,6 +110,17 @@ pub fn acted(id: Id, accounts: &[u8], data: &[u8]) -> u8
     held(form(id, accounts, data))
 }
 
+fn nothing(native: Native) -> bool
+    ensures { λ r. ⌜ r ≡ isNothing native ⌝ }
+{
+    match native {
+        Native::Nothing => true,
+        Native::Fund(_, _, _) => false,
+        Native::Sync(_) => false,
+        Native::Close(_, _, _) => false,
+    }
+}
+
 // Every account index is that of a key, the unused ones too.
 fn all_below(count: usize, accounts: &[u8]) -> bool
     ensures { λ r. ⌜ r ≡ allBelow count (now (accounts .entry)) ⌝ }
@@ -121,13 +139,18 @@ fn all_below(count: usize, accounts: &[u8]) -> bool
 pub fn action(id: Id, keys: &[u8], accounts: &[u8], data: &[u8], mint: &[u8]) -> Native
     ensures { λ r. ⌜ (r ≡ actionOf (keyCount (now (keys .entry))) id (now (accounts .entry)) (now («data» .entry)) (mintOf (now (mint .entry)))) × (valueOf (keyOf (now (keys .entry))) r ≡ nativeAction (keyOf (now (keys .entry))) (keyCount (now (keys .entry))) id (now (accounts .entry)) (now («data» .entry)) (λ _. mintOf (now (mint .entry)))) ⌝ }
 {
+    // Few instructions have an action's form, so that comes before the mint and the accounts.
+    let asked = form(id, accounts, data);
+    if nothing(asked) {
+        return Native::Nothing;
+    }
     if !ids::is_id(2, mint) {
         return Native::Nothing;
     }
     if !all_below(ids::key_count(keys), accounts) {
         return Native::Nothing;
     }
-    form(id, accounts, data)
+    asked
 }
 
 // The fields of a row, one after the other.

@@ -1,10 +1,11 @@
 -- What is written of a leg that is known by its index bytes.
 -- Assumes nothing.
-use mathlib.Core.Path.{_≡_, refl}
-use mathlib.Core.Bool.{cond}
+use mathlib.Core.Path.{_≡_, refl, _∙_}
+use mathlib.Core.Bool.{Bool, true, false, cond}
 use mathlib.Core.List.{List}
-use mathlib.Core.Option.{Option, none}
-use Prim.Native.Nat.{ℕ}
+use mathlib.Core.Option.{Option, none, some}
+use Prim.Native.Nat.{ℕ, _+_}
+use native.Mathlib.Omega.{arith}
 use Rattle.ids.specs.Keys.{Key, keyOf}
 use Rattle.ids.specs.declared.Id.{Id}
 use Rattle.ids.specs.declared.Id.the-variants.{SplToken, Token2022, WrappedSol, ComputeBudget, AssociatedToken, Memo, PumpFun, LaunchLab, PumpSwap, Clmm, Cpmm, AmmV4, Orca, Dlmm, System, Other, Unresolved}
@@ -13,7 +14,7 @@ use Rattle.swaps.specs.Leg.{valued}
 use Rattle.swaps.specs.Swap.{byProgram, swap}
 use Rattle.evidence.specs.MintTable.{MintRow, mintIn}
 use Rattle.route.specs.Legs.{legOf}
-use Rattle.route.specs.Program.{programOf, skips}
+use Rattle.route.specs.Program.{programOf, skips, resolved, programBits}
 
 -- a program that routes pass over has no leg anyway
 skipped : (names : List ℕ) (κ : ℕ → Key) (id : Id) (accounts bytes : List ℕ) (μ : Key → Option Key) (pools : List Key)
@@ -42,3 +43,13 @@ pub leg-swap : (names ks : List ℕ) (pools : List Key) (table : List MintRow) (
     → legOf names ks pools table x ≡ swap names (keyOf ks) (programOf ks x) (x .accounts) (x .bytes) (mintIn table) pools
 unfolding legOf
 leg-swap names ks pools table x = skipped names (keyOf ks) (programOf ks x) (x .accounts) (x .bytes) (mintIn table) pools
+
+-- a program with bits 4 and 8 is passed over, and no leg of it is looked for
+passes-over : (s r : Bool) → cond s 4 0 + cond r 8 0 ≡ 12 → s ≡ true
+passes-over true r e = refl
+passes-over false true e = absurd (omega arith)
+passes-over false false e = absurd (omega arith)
+
+pub passed-over : (names ks : List ℕ) (pools : List Key) (table : List MintRow) (x : Instruction) → programBits (programOf ks x) ≡ 12 → legOf names ks pools table x ≡ none
+unfolding legOf programBits
+passed-over names ks pools table x e = rw (passes-over (skips (programOf ks x)) (resolved (programOf ks x)) e)

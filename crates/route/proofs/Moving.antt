@@ -1,25 +1,37 @@
 -- What is written of a transfer that is known by its index bytes.
 -- Assumes nothing.
-use mathlib.Core.Path.{_≡_, refl}
+use mathlib.Core.Path.{_≡_, refl, sym, _∙_}
+use mathlib.Core.Bool.{false}
 use mathlib.Core.List.{List}
-use mathlib.Core.Option.{Option}
+use mathlib.Core.Option.{Option, none}
 use Prim.Native.Nat.{ℕ, _*_, _≤_}
 use native.Mathlib.Omega.{arith}
 use lib.ListN.{length}
 use lib.Seq.{sets}
-use Rattle.ids.specs.Keys.{Key}
+use Rattle.ids.specs.Keys.{Key, keyOf}
+use Rattle.pack.specs.Invocation.{Instruction}
+use Rattle.token.specs.Programs.{isToken}
 use Rattle.token.specs.declared.Moved.{Moved}
 use Rattle.token.specs.declared.Moved.the-variants.{Nothing, FeeUnknown, FeeKnown}
 use Rattle.token.specs.Moved.{valueOf, sourceBy}
 use Rattle.token.specs.Rows.{rowOf, rowsOf}
+use Rattle.token.proofs.Laws.{moved-value}
+use Rattle.token.proofs.Reading.{read-none}
 use Rattle.route.specs.Lay.{placed}
 use Rattle.route.specs.Known.{rowIf}
-use Rattle.route.specs.Transfers.{movedCount}
+use Rattle.route.specs.Mints.{programOf}
+use Rattle.route.specs.Transfers.{transferOf, movedCount}
 
 pub count-le : (m : Moved) → movedCount m ≤ 1
 count-le Nothing = omega arith
 count-le (FeeUnknown s d a) = omega arith
 count-le (FeeKnown s d a f) = omega arith
+
+-- no other program gives a transfer
+pub no-transfer : (ks : List ℕ) (x : Instruction) → isToken (programOf ks x) ≡ false → transferOf ks x ≡ none
+unfolding transferOf
+no-transfer ks x e =
+    sym (moved-value (keyOf ks) (programOf ks x) (x .accounts) (x .bytes)) ∙ rw (read-none (programOf ks x) (length (x .accounts)) (x .bytes) e)
 
 -- κ gives the key of an index, μ the final mint of a key, mint the one that is handed on
 module _ (κ : ℕ → Key) (μ : Key → Option Key) (i : ℕ) (program : Key) (mint : Option Key) where

@@ -38,6 +38,10 @@ fn put_one(
     ensures { λ r. ⌜ Puts (now (mints .entry)) (now (keys .entry)) (λ table. actionRows (now (keys .entry)) table i (instructionAt (now (pack .entry)) at)) 109 k r (now (out .entry)) (now (out .exit)) ⌝ }
 {
     let id = ids::cases::program(keys, cases, wide(pack::program(pack, at)));
+    // No other program acts, so its accounts and data are not read.
+    if !natives::acts(id) {
+        return 0;
+    }
     let accounts = pack::accounts(pack, at);
     let data = pack::data(pack, at);
     let held = natives::acted(id, accounts, data);

@@ -13,7 +13,7 @@ ghost use Rattle.route.specs.Program.{programBits};
 ghost use Rattle.route.specs.Row.{flagged as flaggedOf, invocationRow};
 
 // The bits that a program's case gives: 4 where a route passes over it, 8 where it is resolved.
-fn program_bits(id: Id) -> u8
+pub(crate) fn program_bits(id: Id) -> u8
     ensures { λ r. ⌜ r ≡ programBits id ⌝ }
 {
     match id {

@@ -1,4 +1,5 @@
 // Table 3: a row for each invocation that is a swap's leg.
+use crate::invocations::program_bits;
 use crate::invocations::wide;
 use crate::transfers::mint;
 use swaps::Found;
@@ -30,6 +31,10 @@ fn put_one<'a>(
 {
     let program = wide(pack::program(pack, at));
     let id = ids::cases::program(keys, cases, program);
+    // No leg is looked for where a route passes over the program.
+    if program_bits(id) == 12 {
+        return 0;
+    }
     let found = swaps::leg(
         names,
         keys,

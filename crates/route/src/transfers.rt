@@ -46,6 +46,10 @@ fn put_one(
 {
     let program = pack::program(pack, at);
     let id = ids::cases::program(keys, cases, program as usize);
+    // No other program gives a transfer, so its accounts and data are not read.
+    if !token::token_program(id) {
+        return 0;
+    }
     let moved = token::transfer(id, keys, pack::accounts(pack, at), pack::data(pack, at));
     token::row::put_row(
         out,

@@ -1,8 +1,8 @@
-use Rattle.route.proofs.Legging.{leg-swap}
+use Rattle.route.proofs.Legging.{passed-over, leg-swap}
 use Rattle.route.specs.Known.{mintAt, Holds}
 use Rattle.route.specs.Lay.{placed}
 use Rattle.route.specs.Legs.{legRows}
-use Rattle.route.specs.Program.{programOf}
+use Rattle.route.specs.Program.{programOf, programBits}
 use Rattle.swaps.proofs.View.{no-leg, a-leg}
 use Rattle.swaps.specs.declared.Found.the-variants.{Nothing, Leg}
 use Rattle.swaps.specs.Row.{poolsOf}
@@ -32,6 +32,7 @@ use Rattle.route.proofs.invocations.wide.Reads as wide-reads
 use Rattle.route.proofs.transfers.mint.Reads as mint-reads
 use Rattle.swaps.proofs.leg.Reads as leg-reads
 use Rattle.swaps.proofs.row.put_leg.Reads as put-leg-reads
+use Rattle.route.proofs.invocations.program_bits.Reads as program-bits-reads
 
 -- src/legs.rt:29:24
 program-requires : tie.Need-program-requires
@@ -44,6 +45,20 @@ wide-requires c κs = search needs
 -- src/legs.rt:30:9
 program-requires-2 : tie.Need-program-requires-2
 program-requires-2 c κs = search needs
+
+program-bits-requires : tie.Need-program-bits-requires
+program-bits-requires c κs = search needs
+
+returns : tie.Need-returns
+unfolding legRows placed
+returns c =
+    let a = c .before .before .before .before .before .before .before .before .before .before .before .args in
+    let x = instructionAt (a .pack .now) (a .at) in
+    let ks = a .keys .now in
+    let pools = poolsOf (a .pools .now) in
+    let e : programBits (programOf ks x) ≡ 12 =
+    sym (c .before .program-bits .ensures ∙ rw (c .before .before .program2 .ensures, case-in ks (a .cases .now) (c .before .before .before .wide .result) (c .before .before .before .before .before .before .before .before .before .before .before .pre .2), c .before .before .before .wide .ensures, c .before .before .before .before .program .ensures)) ∙ c .if1 .taken in
+    record { few = omega arith; counted = λ table h. rw (passed-over (a .names .now) ks pools table x e); rows = λ table h. rw (passed-over (a .names .now) ks pools table x e) }
 
 -- src/legs.rt:31:45
 accounts-requires : tie.Need-accounts-requires
@@ -67,30 +82,30 @@ enum-known-found c = search needs
 
 -- src/legs.rt:35:17
 mint-requires : tie.Need-mint-requires
-mint-requires c κs = search needs
+mint-requires c κs = c .before .before .before .before .before .before .before .before .before .before .before .before .before .before .before .before .before .pre .0
 
 -- src/legs.rt:36:17
 mint-requires-2 : tie.Need-mint-requires-2
-mint-requires-2 c κs = c .before .before .before .before .before .before .before .before .before .before .before .before .before .before .before .before .pre .0
+mint-requires-2 c κs = c .before .before .before .before .before .before .before .before .before .before .before .before .before .before .before .before .before .before .pre .0
 
 -- src/legs.rt:37:38
 mul-put-leg : tie.Need-mul-put-leg
-mul-put-leg c = omega (arith, c .before .before .before .before .before .before .before .before .before .before .before .before .before .before .before .before .before .before .pre .1)
+mul-put-leg c = omega (arith, c .before .before .before .before .before .before .before .before .before .before .before .before .before .before .before .before .before .before .before .before .pre .1)
 
 -- src/legs.rt:37:13
 put-leg-requires : tie.Need-put-leg-requires
 put-leg-requires c κs = search needs
 
 -- src/legs.rt:15:1
-returns : tie.Need-returns
+returns-2 : tie.Need-returns-2
 unfolding legRows placed
-returns c =
-    let a = c .before .before .before .before .before .before .before .before .before .before .before .before .before .before .args in
+returns-2 c =
+    let a = c .before .before .before .before .before .before .before .before .before .before .before .before .before .before .before .before .args in
     let x = instructionAt (a .pack .now) (a .at) in
     let ks = a .keys .now in
     let pools = poolsOf (a .pools .now) in
     let e : legIn (a .names .now) (keyOf ks) (programOf ks x) (x .accounts) (x .bytes) ≡ Nothing =
-    sym (c .before .before .leg .ensures ∙ rw (c .before .before .before .before .accounts .ensures, c .before .before .before .«data» .ensures, c .before .before .before .before .before .program2 .ensures, case-in (a .keys .now) (a .cases .now) (c .before .before .before .before .before .before .wide .result) (c .before .before .before .before .before .before .before .before .before .before .before .before .before .before .pre .2), c .before .before .before .before .before .before .wide .ensures, c .before .before .before .before .before .before .before .program .ensures)) ∙ c .enum-told .given .1 in
+    sym (c .before .before .leg .ensures ∙ rw (c .before .before .before .before .accounts .ensures, c .before .before .before .«data» .ensures, c .before .before .before .before .before .before .before .program2 .ensures, case-in (a .keys .now) (a .cases .now) (c .before .before .before .before .before .before .before .before .wide .result) (c .before .before .before .before .before .before .before .before .before .before .before .before .before .before .before .before .pre .2), c .before .before .before .before .before .before .before .before .wide .ensures, c .before .before .before .before .before .before .before .before .before .program .ensures)) ∙ c .enum-told .given .1 in
     record {
       few = omega arith;
       counted = λ table h. rw (leg-swap (a .names .now) ks pools table x, no-leg (a .names .now) (keyOf ks) (programOf ks x) (x .accounts) (x .bytes) (mintIn table) pools e);
@@ -112,16 +127,16 @@ is-leg ms names ks pools x s e table h p q =
     (h (s .input) p)
     (h (s .output) q)
 
-returns-2 : tie.Need-returns-2
+returns-3 : tie.Need-returns-3
 unfolding legRows placed
-returns-2 c =
-    let a = c .before .before .before .before .before .before .before .before .before .before .before .before .before .before .before .before .before .before .before .before .before .args in
+returns-3 c =
+    let a = c .before .before .before .before .before .before .before .before .before .before .before .before .before .before .before .before .before .before .before .before .before .before .before .args in
     let x = instructionAt (a .pack .now) (a .at) in
     let ks = a .keys .now in
     let pools = poolsOf (a .pools .now) in
     let s = c .before .before .before .before .before .before .before .found .given .0 .0 in
     let e : legIn (a .names .now) (keyOf ks) (programOf ks x) (x .accounts) (x .bytes) ≡ Leg s =
-    sym (c .before .before .before .before .before .before .before .before .before .leg .ensures ∙ rw (c .before .before .before .before .before .before .before .before .before .before .before .accounts .ensures, c .before .before .before .before .before .before .before .before .before .before .«data» .ensures, c .before .before .before .before .before .before .before .before .before .before .before .before .program2 .ensures, case-in (a .keys .now) (a .cases .now) (c .before .before .before .before .before .before .before .before .before .before .before .before .before .wide .result) (c .before .before .before .before .before .before .before .before .before .before .before .before .before .before .before .before .before .before .before .before .before .pre .2), c .before .before .before .before .before .before .before .before .before .before .before .before .before .wide .ensures, c .before .before .before .before .before .before .before .before .before .before .before .before .before .before .program .ensures)) ∙ c .before .before .before .before .before .before .before .found .given .1 in
+    sym (c .before .before .before .before .before .before .before .before .before .leg .ensures ∙ rw (c .before .before .before .before .before .before .before .before .before .before .before .accounts .ensures, c .before .before .before .before .before .before .before .before .before .before .«data» .ensures, c .before .before .before .before .before .before .before .before .before .before .before .before .before .before .program2 .ensures, case-in (a .keys .now) (a .cases .now) (c .before .before .before .before .before .before .before .before .before .before .before .before .before .before .before .wide .result) (c .before .before .before .before .before .before .before .before .before .before .before .before .before .before .before .before .before .before .before .before .before .before .before .pre .2), c .before .before .before .before .before .before .before .before .before .before .before .before .before .before .before .wide .ensures, c .before .before .before .before .before .before .before .before .before .before .before .before .before .before .before .before .program .ensures)) ∙ c .before .before .before .before .before .before .before .found .given .1 in
     let small : s .input < 256 = omega (arith, c .before .before .before .before .before .before .known-told .given) in
     let small2 : s .output < 256 = omega (arith, c .before .before .before .before .before .before .known-told .given) in
     record {
@@ -130,7 +145,7 @@ returns-2 c =
       rows =
           λ table h.
           rw
-          (leg-swap (a .names .now) ks pools table x, is-leg (a .mints .now) (a .names .now) ks pools x s e table h small small2, c .before .before .put-leg .ensures, c .before .before .before .before .before .mint .ensures, c .before .before .before .before .mint2 .ensures, c .before .before .before .before .before .before .before .before .before .before .before .before .before .wide .ensures, c .before .before .before .before .before .before .before .before .before .before .before .before .before .before .program .ensures);
+          (leg-swap (a .names .now) ks pools table x, is-leg (a .mints .now) (a .names .now) ks pools x s e table h small small2, c .before .before .put-leg .ensures, c .before .before .before .before .before .mint .ensures, c .before .before .before .before .mint2 .ensures, c .before .before .before .before .before .before .before .before .before .before .before .before .before .before .before .wide .ensures, c .before .before .before .before .before .before .before .before .before .before .before .before .before .before .before .before .program .ensures);
     }
 
 pub put-one-spec : {M : Type 1} → statement M
@@ -140,6 +155,8 @@ put-one-spec =
     program-requires
     wide-requires
     program-requires-2
+    program-bits-requires
+    returns
     accounts-requires
     data-requires
     leg-requires
@@ -149,6 +166,6 @@ put-one-spec =
     mint-requires-2
     mul-put-leg
     put-leg-requires
-    returns
+    returns-2
     same-length
-    returns-2)
+    returns-3)

@@ -1,14 +1,19 @@
 use native.Mathlib.Omega.{arith}
-use Rattle.route.proofs.Moving.{count-le, row-counted, row-placed}
+use Rattle.route.proofs.Moving.{count-le, no-transfer, row-counted, row-placed}
 use Rattle.route.specs.Known.{mintAt}
+use Rattle.route.specs.Lay.{placed}
+use Rattle.route.specs.Mints.{programOf}
 use Rattle.route.specs.Transfers.{transferOf, transferRows}
+use Rattle.token.specs.Programs.{isToken}
 use Rattle.token.specs.Moved.{valueOf, sourceBy}
 use Rattle.ids.specs.Mints.{mintOf}
 use Rattle.evidence.specs.MintTable.{mintIn}
 use Rattle.pack.specs.Invocation.{instructionAt}
 use Rattle.ids.specs.Cases.{case-in}
 use Rattle.ids.specs.Keys.{keyOf}
-use mathlib.Core.Path.{_≡_, _∙_}
+use mathlib.Core.Path.{_≡_, sym, _∙_}
+use mathlib.Core.Bool.{false}
+use borrow.Author.Tests.{not-true}
 use borrow.Author.Needs.{needs}
 use Rattle.route.proofs.transfers.put_one.Statement.{statement}
 use Rattle.route.proofs.transfers.put_one.Tie as tie
@@ -23,6 +28,7 @@ use Rattle.route.proofs.transfers.mint.Reads as mint-reads
 use Rattle.token.proofs.source.Reads as source-reads
 use Rattle.token.proofs.row.put_row.Reads as put-row-reads
 use Rattle.token.proofs.transfer.Reads as transfer-reads
+use Rattle.token.proofs.token_program.Reads as token-program-reads
 
 -- src/transfers.rt:46:9
 program-requires : tie.Need-program-requires
@@ -35,6 +41,18 @@ cast-program c = search needs
 -- src/transfers.rt:47:9
 program-requires-2 : tie.Need-program-requires-2
 program-requires-2 c κs = search needs
+
+token-program-requires : tie.Need-token-program-requires
+token-program-requires c κs = search needs
+
+returns : tie.Need-returns
+unfolding transferRows placed
+returns c =
+    let a = c .before .before .before .before .before .before .before .before .args in
+    let x = instructionAt (a .pack .now) (a .at) in
+    let e : isToken (programOf (a .keys .now) x) ≡ false =
+    sym (c .before .token-program .ensures ∙ rw (c .before .before .program2 .ensures, case-in (a .keys .now) (a .cases .now) (c .before .before .before .program .result) (c .before .before .before .before .before .before .before .before .pre .2), c .before .before .before .program .ensures)) ∙ not-true (c .before .token-program .result) (c .if1 .taken) in
+    record { few = omega arith; counted = λ table h. rw (no-transfer (a .keys .now) x e); rows = λ table h. rw (no-transfer (a .keys .now) x e) }
 
 -- src/transfers.rt:48:43
 accounts-requires : tie.Need-accounts-requires
@@ -73,15 +91,15 @@ same-length : tie.Need-same-length
 same-length c = search needs
 
 -- what is moved is the instruction's transfer
-value : (c : tie.After-count) → valueOf (keyOf (c .before .before .before .before .before .before .before .before .before .before .before .before .before .before .before .before .args .keys .now)) (c .before .before .before .before .before .before .before .transfer .result) ≡ transferOf (c .before .before .before .before .before .before .before .before .before .before .before .before .before .before .before .before .args .keys .now) (instructionAt (c .before .before .before .before .before .before .before .before .before .before .before .before .before .before .before .before .args .pack .now) (c .before .before .before .before .before .before .before .before .before .before .before .before .before .before .before .before .args .at))
+value : (c : tie.After-count) → valueOf (keyOf (c .before .before .before .before .before .before .before .before .before .before .before .before .before .before .before .before .before .before .args .keys .now)) (c .before .before .before .before .before .before .before .transfer .result) ≡ transferOf (c .before .before .before .before .before .before .before .before .before .before .before .before .before .before .before .before .before .before .args .keys .now) (instructionAt (c .before .before .before .before .before .before .before .before .before .before .before .before .before .before .before .before .before .before .args .pack .now) (c .before .before .before .before .before .before .before .before .before .before .before .before .before .before .before .before .before .before .args .at))
 unfolding transferOf
-value c = c .before .before .before .before .before .before .before .transfer .ensures .1 ∙ rw (c .before .before .before .before .before .before .before .before .before .accounts .ensures, c .before .before .before .before .before .before .before .before .«data» .ensures, c .before .before .before .before .before .before .before .before .before .before .program2 .ensures, case-in (c .before .before .before .before .before .before .before .before .before .before .before .before .before .before .before .before .args .keys .now) (c .before .before .before .before .before .before .before .before .before .before .before .before .before .before .before .before .args .cases .now) (c .before .before .before .before .before .before .before .before .before .before .before .program .result) (c .before .before .before .before .before .before .before .before .before .before .before .before .before .before .before .before .pre .2), c .before .before .before .before .before .before .before .before .before .before .before .program .ensures)
+value c = c .before .before .before .before .before .before .before .transfer .ensures .1 ∙ rw (c .before .before .before .before .before .before .before .before .before .accounts .ensures, c .before .before .before .before .before .before .before .before .«data» .ensures, c .before .before .before .before .before .before .before .before .before .before .before .before .program2 .ensures, case-in (c .before .before .before .before .before .before .before .before .before .before .before .before .before .before .before .before .before .before .args .keys .now) (c .before .before .before .before .before .before .before .before .before .before .before .before .before .before .before .before .before .before .args .cases .now) (c .before .before .before .before .before .before .before .before .before .before .before .before .before .program .result) (c .before .before .before .before .before .before .before .before .before .before .before .before .before .before .before .before .before .before .pre .2), c .before .before .before .before .before .before .before .before .before .before .before .before .before .program .ensures)
 
 -- src/transfers.rt:42:1
-returns : tie.Need-returns
+returns-2 : tie.Need-returns-2
 unfolding transferRows
-returns c =
-    let a = c .before .before .before .before .before .before .before .before .before .before .before .before .before .before .before .before .args in
+returns-2 c =
+    let a = c .before .before .before .before .before .before .before .before .before .before .before .before .before .before .before .before .before .before .args in
     let moved = c .before .before .before .before .before .before .before .transfer .result in
     let program = keyOf (a .keys .now) (instructionAt (a .pack .now) (a .at) .program) in
     let mint = mintOf (mintAt (a .mints .now) (sourceBy moved)) in
@@ -93,7 +111,7 @@ returns c =
           ∙ rw (value c);
       rows =
           λ table h.
-          rw (c .before .before .before .put-row .ensures, c .before .before .before .before .mint .ensures, c .before .before .before .before .before .source .ensures, c .before .before .before .before .before .before .before .before .before .before .before .program .ensures)
+          rw (c .before .before .before .put-row .ensures, c .before .before .before .before .mint .ensures, c .before .before .before .before .before .source .ensures, c .before .before .before .before .before .before .before .before .before .before .before .before .before .program .ensures)
           (row-placed (keyOf (a .keys .now)) (mintIn table) (a .i) program mint moved (h (sourceBy moved) (rw (← (c .before .before .before .before .before .source .ensures)) (omega arith))) (a .out .now) (a .k) ∙ rw (value c));
     }
 
@@ -104,6 +122,8 @@ put-one-spec =
     program-requires
     cast-program
     program-requires-2
+    token-program-requires
+    returns
     accounts-requires
     data-requires
     transfer-requires
@@ -113,4 +133,4 @@ put-one-spec =
     put-row-requires
     count-requires
     same-length
-    returns)
+    returns-2)
