@@ -38,6 +38,7 @@ use Rattle.evidence.specs.Sorted.{insert, sort}
 use Rattle.evidence.specs.Final.{clean, final}
 use Rattle.evidence.specs.Marks.{absent, differ, opposes, opposed, markOf}
 use Rattle.evidence.specs.MintTable.{mintTable, finish, mints, mintIn}
+use Rattle.mints.specs.Inference.{balanceSays, says, moves, evidenceOf, transfersOf, inferred}
 use Rattle.subtrees.specs.Descendant.{higher, inners, descendant}
 use Rattle.subtrees.specs.Blocks.{firstNot, anyIn, countIn, sumIn, atop, testsAt}
 use Rattle.subtrees.specs.Subtrees.{tab, place, within}
@@ -72,5 +73,5 @@ expected c = (0, c .1)
 
 -- no case is refused, and each has its outcome
 pub marked-cases : map found cases ≡ map expected cases
-unfolding key cases names called packOf flatMap le leBytes same zeroKey ids ofNumber rowFrom which programAt instructionAt mark marked startOf ordered hasSection sectionOf rows rowsFill keysFill itemEnd outersFrom outersFill heightAt heightGood innersEnd innersGood innersFrom groupEnd groupGood groupAt groupsFrom groupsFill keysIn balancesIn outerIn groupsIn viewOf numbered inside flattenFrom flatten verdict isToken isToken2022 initialises plainTransfer checkedTransfer feeTransfer bothEnds records plain plainly checked transfer isSystem funds syncs closes asked counted nativeAction is tagSize slices slicesFit layout dlmm trackVolume pumpSwap pumpSwapLeg ammV4 valued byProgram swap endBytes keyBytes legRow ltKey gather lookup put note noteAll recorded fill spread step pass passCounted run runFrom infer insert sort clean final absent differ opposes opposed markOf mintTable finish mints mintIn higher inners descendant firstNot anyIn countIn sumIn atop testsAt tab place within rowsOf placed flagged invocationRow transferOf transferRows legOf legRows actionOf actionRows invocationAt tablesWith tablesIf tables accepted fitted passed judged route
+unfolding key cases names called packOf flatMap le leBytes same zeroKey ids ofNumber rowFrom which programAt instructionAt mark marked startOf ordered hasSection sectionOf rows rowsFill keysFill itemEnd outersFrom outersFill heightAt heightGood innersEnd innersGood innersFrom groupEnd groupGood groupAt groupsFrom groupsFill keysIn balancesIn outerIn groupsIn viewOf numbered inside flattenFrom flatten verdict isToken isToken2022 initialises plainTransfer checkedTransfer feeTransfer bothEnds records plain plainly checked transfer isSystem funds syncs closes asked counted nativeAction is tagSize slices slicesFit layout dlmm trackVolume pumpSwap pumpSwapLeg ammV4 valued byProgram swap endBytes keyBytes legRow ltKey gather lookup put note noteAll recorded fill spread step pass passCounted run runFrom infer insert sort clean final absent differ opposes opposed markOf mintTable finish mints mintIn balanceSays says moves evidenceOf transfersOf inferred higher inners descendant firstNot anyIn countIn sumIn atop testsAt tab place within rowsOf placed flagged invocationRow transferOf transferRows legOf legRows actionOf actionRows invocationAt tablesWith tablesIf tables accepted fitted passed judged route
 marked-cases = refl
