@@ -12,6 +12,7 @@ pub mod OrderTable
 pub mod OrderMints
 pub mod OrderWays
 pub mod Order
+pub mod OrderCalls
 pub mod Inferring
 pub mod Filling
 pub mod Success
