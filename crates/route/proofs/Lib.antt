@@ -20,3 +20,4 @@ pub mod Called
 pub mod Claims
 pub mod Packing
 pub mod MarkedCases
+pub mod OrderCases
