@@ -1,7 +1,7 @@
 -- Order does not matter: two packs with the same evidence, in any order, and what the call leaves of them in table 0.
 -- Assumes nothing.
 use mathlib.Core.Path.{_≡_, refl, sym, ap, _∙_}
-use mathlib.Core.Logic.{_≢_, _↔_, inl, inr}
+use mathlib.Core.Logic.{_≢_, _⊎_, _↔_, inl, inr}
 use mathlib.Core.List.{List, [], map, List·Memᴰ}
 use mathlib.Core.Option.{some}
 use Prim.Native.Nat.{ℕ, _*_, _/_, _≤_, _<_}
@@ -13,7 +13,7 @@ use Rattle.evidence.specs.Chains.{Chain}
 use Rattle.evidence.specs.Ascending.{Ascending, ascending-once}
 use Rattle.evidence.specs.Independence.{Apart, Unjoined, unjoined-apart}
 use Rattle.evidence.specs.MintTable.{Answer, rowAccounts}
-use Rattle.evidence.specs.Order.{row-right, row-reached, row-order, row-kept, row-sure, Alike}
+use Rattle.evidence.specs.Order.{row-right, row-reached, row-order, row-kept, row-recorded, row-filled, row-sure, Alike}
 use Rattle.mints.specs.Bytes.{mintRow}
 use Rattle.pack.specs.Items.{rows}
 use Rattle.pack.proofs.Rows.{row-at}
@@ -134,6 +134,15 @@ module _ (names p : List ℕ) (l : Lent) where
   -- one recorded mint is kept, with mark 0
   pub left-kept : {a m : Key} → Succeeds (route names p l) → One (evidenceIn p) a m → List·Memᴰ (a, m, 0) (mintsLeft (route names p l))
   left-kept e o = let t = left e in rw (t .read) (row-kept (made p (t .is)) o)
+
+  -- a row has mark 0 exactly when its mint is the one recorded for its account
+  pub left-mark : {a m : Key} {n : ℕ} → Succeeds (route names p l) → List·Memᴰ (a, m, n) (mintsLeft (route names p l)) → (n ≡ 0) ↔ One (evidenceIn p) a m
+  left-mark e i = let t = left e in row-recorded (made p (t .is)) (rw (t .read) at i)
+
+  -- a mint that is filled in is marked: 1 or 2 exactly where nothing is recorded for the account
+  pub left-filled : {a m : Key} {n : ℕ} → Succeeds (route names p l) → List·Memᴰ (a, m, n) (mintsLeft (route names p l))
+      → ((n ≡ 1) ⊎ (n ≡ 2)) ↔ Free (evidenceIn p) a
+  left-filled e i = let t = left e in row-filled (made p (t .is)) (rw (t .read) at i)
 
   -- with no chains from two different mints to one account, every account filled in has mark 1
   pub left-sure : {a m : Key} {n : ℕ} → Succeeds (route names p l) → Apart (evidenceIn p) (plainsIn p) → Free (evidenceIn p) a
