@@ -1,5 +1,6 @@
-//! The packs that are timed: typical ones, and one at each limit that costs time.
+//! The packs that are timed: typical ones, one at each limit that costs time, and some that grow.
 
+use crate::generate::rng::Rng;
 use crate::sample;
 use mbelaguy::pack::{Balance, Group, Inner, Instruction, Key, KeyRow, Pack, MAX_BYTES};
 use mbelaguy::{Names, MAX_INVOCATIONS, MAX_KEYS};
@@ -11,12 +12,22 @@ pub struct Timed {
     pub pack: Pack,
 }
 
-/// Typical packs first, then the limits.
+/// Typical packs first, then the limits, then those that grow in invocations, keys and bytes.
 pub fn packs() -> Vec<Timed> {
-    let typical = [1, 2, 4].map(|trades| {
-        let pack = sample::trades(trades);
-        Timed { name: format!("typical-{}", pack.steps().len()), pack }
-    });
+    let typical = [1, 2, 4].map(|trades| ("typical", sample::trades(trades)));
+    let longer = [10, 30, 100].map(|trades| ("trades", sample::trades(trades)));
+    let traded = typical
+        .into_iter()
+        .chain(longer)
+        .map(|(name, pack)| Timed { name: format!("{name}-{}", pack.steps().len()), pack });
+    let keyed =
+        [16, 64, 256].map(|count| Timed { name: format!("keys-{count}"), pack: keys(count) });
+    let long = [1_000, 10_000, 60_000]
+        .map(|count| Timed { name: format!("bytes-{count}"), pack: bytes(count) });
+    traded.chain(limits()).chain(keyed).chain(long).collect()
+}
+
+fn limits() -> impl Iterator<Item = Timed> {
     let limits = [
         ("passes", passes()),
         ("groups", groups()),
@@ -29,8 +40,24 @@ pub fn packs() -> Vec<Timed> {
         ("balances", balances()),
         ("largest", largest()),
     ];
-    let limits = limits.map(|(name, pack)| Timed { name: name.to_string(), pack });
-    typical.into_iter().chain(limits).collect()
+    limits.into_iter().map(|(name, pack)| Timed { name: name.to_string(), pack })
+}
+
+/// So many accounts with keys of random bytes, each with a balance.
+fn keys(count: usize) -> Pack {
+    let balance = |account: usize| Balance { account: account as u32, mint: [9; 32] };
+    let mut rng = Rng::new(count as u64);
+    Pack {
+        keys: (0..count).map(|_| row(rng.array())).collect(),
+        balances: (0..count).map(balance).collect(),
+        ..Pack::default()
+    }
+}
+
+/// One instruction with so many bytes of data.
+fn bytes(count: usize) -> Pack {
+    let data = vec![0; count];
+    Pack { outer: vec![Instruction { data, ..Instruction::default() }], ..Pack::default() }
 }
 
 /// The most work for the passes: 255 accounts and four transfers for each two neighbours, which hand

@@ -5,7 +5,7 @@ mod damage;
 mod extremes;
 pub mod names;
 pub mod order;
-mod rng;
+pub mod rng;
 pub mod room;
 pub mod swaps;
 mod tokens;

@@ -103,12 +103,15 @@ pub fn put_mint(out: &mut [u8], at: usize, mint: &[u8])
     }
 }
 
-// Whether `key` is the id of row k. The table is lent, since a constant array is built anew wherever it is named.
+// Whether `key` is the id of row k. The table is lent, since a constant array is built anew wherever it is named; the first byte tells most rows apart.
 fn is_row(table: &[u8], k: usize, key: &[u8]) -> bool
     requires { ⌜ (now table ≡ ids) × (k < 14) ⌝ }
     ensures { λ r. ⌜ r ≡ same (idAt k) (now (key .entry)) ⌝ }
 {
     let at = k * 32;
+    if table[at] != wire::byte(key, 0) {
+        return false;
+    }
     wire::equal(&table[at..at + 32], key)
 }
 

@@ -1,15 +1,15 @@
 -- The order of keys byte by byte, and a row number put in between others.
 -- Assumes nothing.
-use mathlib.Core.Path.{_≡_, refl, ap, _∙_}
+use mathlib.Core.Path.{_≡_, refl, sym, ap, ap₂, _∙_}
 use mathlib.Core.Bool.{Bool, true, false, _&&_, _||_}
-use mathlib.Core.List.{List, _∷_, _++_}
+use mathlib.Core.List.{List, [], _∷_, _++_}
 use Prim.Native.Nat.{ℕ, suc, _+_, _-_, _≤_, _<_}
 use native.Mathlib.Numerals.{add-one}
 use native.Mathlib.Omega.{arith}
-use borrow.Author.Tests.{ltb-true, ltb-false}
+use borrow.Author.Tests.{ltb-true, ltb-false, le-ltb, eq-eqb}
 use lib.Dec.{ltb, eqb}
-use lib.ListN.{length, getD, set, take, drop, drop-of-length-le, length-append, length-take, length-drop}
-use lib.Seq.{sets, drop-cons, sets-eq, take-at, take-take, take-add, drop-at, length-take-le}
+use lib.ListN.{length, getD, set, take, drop, drop-of-length-le, take-append-drop, length-append, length-take, length-drop}
+use lib.Seq.{sets, drop-cons, sets-eq, take-at, take-take, take-add, drop-at, drop-drop, length-take-le}
 use Rattle.wire.specs.Sets.{sets-before, sets-front}
 use Rattle.evidence.specs.Keys.{ltKey}
 
@@ -32,6 +32,19 @@ module _ (a b : List ℕ) (i : ℕ) where
       go : (t : Bool) → ltb i (length b) ≡ t → ltKey (drop i a) (drop i b) ≡ ltb i (length b)
       go true e = rw (e, drop-of-length-le a {i = i} p, drop-cons b i 0 (ltb-true _ _ e))
       go false e = rw (e, drop-of-length-le a {i = i} p, drop-of-length-le b {i = i} (ltb-false _ _ e))
+
+-- what both begin with decides nothing
+less-prefix : (w x y : List ℕ) → ltKey (w ++ x) (w ++ y) ≡ ltKey x y
+unfolding ltKey
+less-prefix [] x y = refl
+less-prefix (z ∷ w) x y = rw (le-ltb z z (omega arith), eq-eqb z z refl, less-prefix w x y)
+
+-- n bytes from i on are the same
+pub less-pass : (n : ℕ) (a b : List ℕ) (i : ℕ) → take n (drop i a) ≡ take n (drop i b) → ltKey (drop (i + n) a) (drop (i + n) b) ≡ ltKey (drop i a) (drop i b)
+less-pass n a b i e =
+    let p : drop i a ≡ take n (drop i b) ++ drop (i + n) a = rw (← e, ← drop-drop n i a) (sym (take-append-drop n (drop i a))) in
+    let q : drop i b ≡ take n (drop i b) ++ drop (i + n) b = rw (← drop-drop n i b) (sym (take-append-drop n (drop i b))) in
+    sym (ap₂ ltKey p q ∙ less-prefix (take n (drop i b)) (drop (i + n) a) (drop (i + n) b))
 
 module _ (o : List ℕ) where
   -- one element more moved to the right

@@ -1,13 +1,28 @@
 // The table as it is written: rows with a mint, ascending by account bytes; and the mint of each key index.
 ghost use mathlib.Core.Path.{_≡_};
 ghost use Prim.Native.Nat.{suc, _+_, _-_, _*_, _≤_, _<_};
-ghost use lib.ListN.{length, take};
+ghost use mathlib.Core.Bool.{true};
+ghost use lib.ListN.{length, take, drop};
 ghost use lib.Seq.{sets};
 ghost use Rattle.evidence.specs.Keys.{ltKey};
 ghost use Rattle.mints.specs.Cells.{Fits};
 ghost use Rattle.mints.specs.Order.{spotIn, putIn, sortTo, rowsBytes, mintOf, mintsTo};
 
-// Whether a comes before b: the first byte that differs decides.
+// Whether both have eight bytes from place i on, and the same ones: they are compared at once.
+fn alike(a: &[u8], b: &[u8], i: usize) -> bool
+    requires { ⌜ (i < length (now a)) × (i < length (now b)) ⌝ }
+    ensures { λ r. ⌜ (r ≡ true → (i + 8 ≤ length (now (a .entry))) × (take 8 (drop i (now (a .entry))) ≡ take 8 (drop i (now (b .entry))))) ⌝ }
+{
+    if a.len() - i < 8 {
+        return false;
+    }
+    if b.len() - i < 8 {
+        return false;
+    }
+    wire::equal(&a[i..i + 8], &b[i..i + 8])
+}
+
+// Whether a comes before b: the first byte that differs decides. Accounts made in a row differ late, so equal bytes are passed by eight.
 fn less(a: &[u8], b: &[u8]) -> bool
     ensures { λ r. ⌜ r ≡ ltKey (now (a .entry)) (now (b .entry)) ⌝ }
 {
@@ -15,6 +30,10 @@ fn less(a: &[u8], b: &[u8]) -> bool
     while i < a.len() {
         if b.len() <= i {
             return false;
+        }
+        if alike(a, b, i) {
+            i += 8;
+            continue;
         }
         if a[i] < b[i] {
             return true;
