@@ -7,7 +7,7 @@ use Prim.Native.Nat.{ℕ, _≤_}
 use native.Mathlib.Omega.{arith}
 use lib.ListN.{length}
 use Rattle.ids.specs.Keys.{Key, zeroKey}
-use Rattle.evidence.specs.Table.{Table, Has, has-not-lacks, add-cases, SameMembers}
+use Rattle.evidence.specs.Table.{Table, Has, has-not-lacks, add-cases}
 use Rattle.evidence.specs.Evidence.{Evidence, recorded, Noted, free, one, clash}
 use Rattle.evidence.specs.Recording.{recorded-noted}
 use Rattle.evidence.specs.Distinct.{distinct-recorded, covered-length, length-rows, mem-rows}
@@ -62,7 +62,3 @@ module _ {l : List Key} {e : Evidence} {ps : Transfers} (h : Among l e ps) where
       go : (o : Option Outcome) → infer f e ps ≡ o → Inferred e ps f o → (t : Table) × (n : ℕ) × (infer f e ps ≡ some (t, n)) × Settled e ps t × (n ≤ length l)
       go (some r) q _ = let s = infer-settled f e ps q in (r .0, r .1, q, s, omega (arith, infer-passes f e ps q, rows-bound (s .grows)))
       go none q (short g b) = absurd (omega (arith, rows-bound g))
-
--- the same keys bound the same members
-pub same-among : {l : List Key} {e e′ : Evidence} {ps ps′ : Transfers} → SameMembers e e′ → SameMembers ps ps′ → Among l e ps → Among l e′ ps′
-same-among se sp h = record { evidence = λ i. h .evidence (se .from i); source = λ i. h .source (sp .from i); target = λ i. h .target (sp .from i) }

@@ -6,9 +6,9 @@
 --   Ascending, Sorted, Final   `final`: no ambiguous rows, sorted    Gather        the same items in any order
 --   Independence  T5: `same-recorded`, `same-room`, `same-final`     Bound         T6: `enough`
 --   Marks         `markOf`, and `Mark` that says the same            MintTable     `mints`: rows, room, passes; `same-table`
---   Order         the theorem `order-items`; `answered-256`          Cases         worked cases in one list
+--   Order         the theorem `alike`; `answered-256`                Cases         worked cases in one list
 -- For code: Lookups (what a search finds after each step), Loops (some items more, passes counted), Marking (marks transfer by transfer),
--- Written (rows however they were sorted). T1 to T6 are the steps to `order-items`. The rule of the marks stands in Marks and Marking alone.
+-- Written (rows however they were sorted). T1 to T6 are the steps to `alike`. The rule of the marks stands in Marks and Marking alone.
 pub mod Keys
 pub mod Table
 pub mod Evidence

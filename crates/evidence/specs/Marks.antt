@@ -1,10 +1,11 @@
 -- How sure a mint is: the mark of a row of the final table. Assumes nothing.
 use mathlib.Core.Path.{_≡_, refl, sym, _∙_, ap, subst, Σ-path}
-use mathlib.Core.Logic.{_≢_, by-cases}
+use mathlib.Core.Logic.{_≢_, _⊎_, inl, inr, ⊎-elim, _↔_, by-cases}
 use mathlib.Core.Bool.{Bool, true, false, cond, not, _&&_, _||_}
 use mathlib.Core.Option.{Option, none, some}
 use mathlib.Core.List.{[], _∷_, List·Memᴰ·head, List·Memᴰ·tail, List·Memᴰ·not-nil}
 use Prim.Native.Nat.{ℕ}
+use native.Mathlib.Omega.{arith}
 use Rattle.wire.specs.Same.{same, same-eq, same-ne}
 use Rattle.ids.specs.Keys.{Key, zeroKey}
 use Rattle.evidence.specs.Keys.{key?}
@@ -67,6 +68,18 @@ mark-unique (mark-sure f n) (mark-opposed _ d) = absurd (n d)
 mark-unique (mark-opposed f d) (mark-recorded o) = absurd (f .silent (o .says))
 mark-unique (mark-opposed f d) (mark-sure _ n) = absurd (n d)
 mark-unique (mark-opposed f d) (mark-opposed _ _) = refl
+
+-- mark 0 says that one mint is recorded
+pub mark-zero : {e : Evidence} {ps : Transfers} {t : Table} {a : Key} {n : ℕ} → Mark e ps t a n → n ≡ 0 → (m : Key) × One e a m
+mark-zero (mark-recorded {m} o) q = (m, o)
+mark-zero (mark-sure f d) q = absurd (omega arith)
+mark-zero (mark-opposed f d) q = absurd (omega arith)
+
+-- marks 1 and 2 that nothing is
+pub mark-filled : {e : Evidence} {ps : Transfers} {t : Table} {a : Key} {n : ℕ} → Mark e ps t a n → ((n ≡ 1) ⊎ (n ≡ 2)) ↔ Free e a
+mark-filled (mark-recorded o) = (λ q. absurd (⊎-elim (λ l. omega arith) (λ r. omega arith) q), λ f. absurd (f .silent (o .says)))
+mark-filled (mark-sure f d) = (λ q. f, λ g. inl refl)
+mark-filled (mark-opposed f d) = (λ q. f, λ g. inr refl)
 
 -- what the test of two mints says of the table
 data Differs (t : Table) (a b : Key) : Bool → Type 0 where

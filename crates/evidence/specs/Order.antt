@@ -1,8 +1,8 @@
 -- The theorem of order: the mint table of the same evidence and the same plain transfers, in any order. Assumes nothing.
 use mathlib.Core.Path.{_≡_, refl, sym, _∙_, ap}
-use mathlib.Core.Logic.{_↔_}
+use mathlib.Core.Logic.{_↔_, _⊎_}
 use mathlib.Core.Option.{Option, none, some, Option·none-ne-some, Option·some-injective}
-use mathlib.Core.List.{List, [], _++_, List·Permᴰ, List·Memᴰ}
+use mathlib.Core.List.{List, [], List·Memᴰ}
 use Prim.Native.Nat.{ℕ, _≤_}
 use native.Mathlib.Omega.{arith}
 use lib.ListN.{length, length-map}
@@ -13,12 +13,11 @@ use Rattle.evidence.specs.Passes.{Transfers}
 use Rattle.evidence.specs.Run.{Outcome}
 use Rattle.evidence.specs.Infer.{infer, Settled, infer-settled, infer-passes, infer-none, settled-distinct}
 use Rattle.evidence.specs.Chains.{Chain}
-use Rattle.evidence.specs.Ascending.{Ascending}
+use Rattle.evidence.specs.Ascending.{Ascending, ascending-once}
 use Rattle.evidence.specs.Final.{final}
 use Rattle.evidence.specs.Independence.{Apart, same-agree, same-room}
-use Rattle.evidence.specs.Gather.{gather, gather-same, append-same}
-use Rattle.evidence.specs.Bound.{Among, rows-bound, enough, same-among}
-use Rattle.evidence.specs.Marks.{Mark}
+use Rattle.evidence.specs.Bound.{Among, rows-bound, enough}
+use Rattle.evidence.specs.Marks.{Mark, mark-zero, mark-filled}
 use Rattle.evidence.specs.MintTable.{Answer, mintTable, rowAccounts, finish, mints, table-ascending, same-table-accounts, same-table, table-right, table-there, table-kept, table-sure}
 
 -- how an answer is made: from a table with all evidence, to which no transfer hands on another mint
@@ -79,6 +78,17 @@ module _ {e : Evidence} {ps : Transfers} {x : Answer} (y : Made e ps x) where
   pub row-kept : {a m : Key} → One e a m → List·Memᴰ (a, m, 0) (x .rows)
   row-kept o = rw (y .rows) (table-kept (y .settled) o)
 
+  -- a row has mark 0 exactly when its mint is the one recorded for its account
+  pub row-recorded : {a m : Key} {n : ℕ} → List·Memᴰ (a, m, n) (x .rows) → (n ≡ 0) ↔ One e a m
+  row-recorded {a} {m} {n} i = (λ q. same (mark-zero ((row-right i) .1) q), λ o. ap (λ r. r .2) (ascending-once row-order i (row-kept o) refl))
+    where
+      same : (k : Key) × One e a k → One e a m
+      same (k, o) = rw (ap (λ r. r .1) (ascending-once row-order i (row-kept o) refl)) o
+
+  -- and mark 1 or 2 exactly when nothing is recorded for it
+  pub row-filled : {a m : Key} {n : ℕ} → List·Memᴰ (a, m, n) (x .rows) → ((n ≡ 1) ⊎ (n ≡ 2)) ↔ Free e a
+  row-filled i = mark-filled ((row-right i) .1)
+
   -- where no account is reached from two mints, a filled-in row has mark 1
   pub row-sure : {a m : Key} {n : ℕ} → Apart e ps → Free e a → List·Memᴰ (a, m, n) (x .rows) → n ≡ 1
   row-sure h f i = table-sure (y .settled) h f (rw (y .rows) at i)
@@ -104,33 +114,3 @@ alike {e} {e′} {ps} {ps′} {x} {y} se sp m n =
   where
     same : rowAccounts (x .rows) ≡ rowAccounts (y .rows)
     same = rw (m .rows, n .rows) (same-table-accounts se sp (m .settled) (n .settled))
-
--- both orders have an answer, and the two are alike
-pub record Both (e e′ : Evidence) (ps ps′ : Transfers) : Type 0 where
-  pub first : Answer
-  pub second : Answer
-  pub is-first : mints 512 e ps ≡ some first
-  pub is-second : mints 512 e′ ps′ ≡ some second
-  pub are-alike : Alike e ps first second
-
--- The theorem for the same members, over at most 256 keys.
-pub order : {l : List Key} {e e′ : Evidence} {ps ps′ : Transfers} → Among l e ps → length l ≤ 256 → SameMembers e e′ → SameMembers ps ps′ → Both e e′ ps ps′
-order {e} {e′} {ps} {ps′} h b se sp =
-    let x = answered-256 h b in
-    let y = answered-256 (same-among se sp h) b in
-    record {
-      first = x .0;
-      second = y .0;
-      is-first = x .1;
-      is-second = y .1;
-      are-alike = alike se sp (mints-made 512 e ps (x .1)) (mints-made 512 e′ ps′ (y .1));
-    }
-
--- The theorem for balance rows and invocations in any order: f and g say what they record, h which plain transfers they are.
-pub order-items : {l : List Key} {A B : Type 0} (f : A → Evidence) (g : B → Evidence) (h : B → Transfers) {xs xs′ : List A} {ys ys′ : List B}
-    → Among l (gather f xs ++ gather g ys) (gather h ys)
-    → length l ≤ 256
-    → List·Permᴰ xs xs′
-    → List·Permᴰ ys ys′
-    → Both (gather f xs ++ gather g ys) (gather f xs′ ++ gather g ys′) (gather h ys) (gather h ys′)
-order-items f g h w b p q = order w b (append-same (gather-same f p) (gather-same g q)) (gather-same h q)

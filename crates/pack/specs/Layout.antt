@@ -1,7 +1,7 @@
 -- The invocations of a pack as four arrays: where each instruction stands, and its position.
 -- Assumes nothing.
 use Prim.Native.Nat.{ℕ, zero, suc, _+_, _<_, _≤_}
-use mathlib.Core.Path.{_≡_}
+use mathlib.Core.Path.{_≡_, sym, _∙_}
 use mathlib.Core.Bool.{Bool, cond, _&&_}
 use mathlib.Core.List.{List, [], _∷_, map}
 use mathlib.Core.Option.{Option, none, some}
@@ -58,6 +58,18 @@ pub record Wrote (xs : List (Position × ℕ)) (n r : ℕ) (at₀ outer₀ inner
 -- what `flatten` leaves: the invocations from the first place on, and zeros behind them
 abbrev pub Flattened : List ℕ → ℕ → List ℕ → List ℕ → List ℕ → List ℕ → Type 0
 Flattened p r at outer inner height = Wrote (layout p) 0 r (zeros 1024) (zeros 1024) (zeros 1024) (zeros 1024) at outer inner height
+
+-- one result, and one content of each array
+pub flattened-once : (p : List ℕ) {r r′ : ℕ} {at outer inner height at′ outer′ inner′ height′ : List ℕ}
+    → Flattened p r at outer inner height → Flattened p r′ at′ outer′ inner′ height′
+    → (r ≡ r′) × (at ≡ at′) × (outer ≡ outer′) × (inner ≡ inner′) × (height ≡ height′)
+flattened-once p x y = (
+  x .count ∙ sym (y .count),
+  x .ats ∙ sym (y .ats),
+  x .outers ∙ sym (y .outers),
+  x .inners ∙ sym (y .inners),
+  x .heights ∙ sym (y .heights),
+)
 
 -- the groups that are remembered: those that name one of the o outer instructions and are not empty
 unfoldable pub keeps : List ℕ → ℕ → ℕ → Bool

@@ -1,19 +1,18 @@
 -- Which of the refusals 2 to 6 a pack meets, in the order of the checks.
 -- Assumes nothing.
 use Prim.Native.Nat.{ℕ}
-use mathlib.Core.Bool.{Bool, true, false, cond, not}
+use mathlib.Core.Bool.{cond, not}
 use mathlib.Core.List.{List}
-use mathlib.Core.Option.{Option, none, some}
 use lib.Dec.{ltb}
 use lib.ListN.{length}
 use Rattle.pack.specs.declared.Verdict.{Verdict}
 use Rattle.pack.specs.declared.Verdict.the-variants.{Good, Mark, Starts, Section, Keys, Invocations}
 use Rattle.pack.specs.Sections.{marked, ordered, sectionOf}
 use Rattle.pack.specs.Items.{keysFill, rowsFill, outersWhole, groupsWhole}
-use Rattle.pack.specs.View.{View, viewOf}
+use Rattle.pack.specs.View.{viewOf}
 use Rattle.pack.specs.Flatten.{flatten}
 
--- the number of a refusal in document 01, and 0 for none
+-- the number of a refusal in docs/FORMAT.md, and 0 for none
 abbrev pub numberOf : Verdict → ℕ
 numberOf Good = 0
 numberOf Mark = 2
@@ -42,16 +41,3 @@ verdict p =
     (cond (not (rowsFill 32 (sectionOf p 4))) (Section 4)
     (cond (ltb 256 (length (viewOf p .keys))) Keys
     (cond (ltb 1024 (length (flatten (viewOf p)))) Invocations Good))))))))
-
--- the refusals 2 to 4 leave nothing to be shown
-abbrev pub shown : Verdict → Bool
-shown Good = true
-shown Mark = false
-shown Starts = false
-shown (Section k) = false
-shown Keys = true
-shown Invocations = true
-
--- a pack has a View where none of the refusals 2 to 4 meets it
-unfoldable pub view : List ℕ → Option View
-view p = cond (shown (verdict p)) (some (viewOf p)) none

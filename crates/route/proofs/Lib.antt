@@ -12,6 +12,7 @@ pub mod OrderTable
 pub mod OrderMints
 pub mod OrderWays
 pub mod Order
+pub mod OrderCalls
 pub mod Inferring
 pub mod Filling
 pub mod Success
@@ -19,3 +20,4 @@ pub mod Called
 pub mod Claims
 pub mod Packing
 pub mod MarkedCases
+pub mod OrderCases

@@ -1,7 +1,7 @@
 -- Order does not matter: two packs with the same evidence, in any order, and what the call leaves of them in table 0.
 -- Assumes nothing.
 use mathlib.Core.Path.{_≡_, refl, sym, ap, _∙_}
-use mathlib.Core.Logic.{_≢_, _↔_, inl, inr}
+use mathlib.Core.Logic.{_≢_, _⊎_, _↔_, inl, inr}
 use mathlib.Core.List.{List, [], map, List·Memᴰ}
 use mathlib.Core.Option.{some}
 use Prim.Native.Nat.{ℕ, _*_, _/_, _≤_, _<_}
@@ -13,7 +13,7 @@ use Rattle.evidence.specs.Chains.{Chain}
 use Rattle.evidence.specs.Ascending.{Ascending, ascending-once}
 use Rattle.evidence.specs.Independence.{Apart, Unjoined, unjoined-apart}
 use Rattle.evidence.specs.MintTable.{Answer, rowAccounts}
-use Rattle.evidence.specs.Order.{row-right, row-reached, row-order, row-kept, row-sure, Alike}
+use Rattle.evidence.specs.Order.{row-right, row-reached, row-order, row-kept, row-recorded, row-filled, row-sure, Alike}
 use Rattle.mints.specs.Bytes.{mintRow}
 use Rattle.pack.specs.Items.{rows}
 use Rattle.pack.proofs.Rows.{row-at}
@@ -22,7 +22,7 @@ use Rattle.route.specs.Route.{Lent, Routed, refused, accepted, route}
 use Rattle.route.specs.Order.{evidenceIn, plainsIn, mintsIn, SameEvidence, mintsLeft, Succeeds, ClearsSeven, NoRoom}
 use Rattle.route.proofs.OrderTable.{mints-rows, mints-written}
 use Rattle.route.proofs.OrderMints.{made, sized, rows-room, tables-alike}
-use Rattle.route.proofs.OrderWays.{Ways, early, crowded, later, good, ways}
+use Rattle.route.proofs.OrderWays.{FewTests, Ways, early, crowded, later, good, ways}
 
 -- table 0 after a call that is not refused: the rows of the pack's mint table, and they are read back from the bytes
 pub record Left (p : List ℕ) (l : Lent) (r : Routed) : Type 0 where
@@ -46,17 +46,17 @@ module _ {p : List ℕ} {l : Lent} where
   left-by (early n k h f) e = absurd (omega arith)
   left-by (crowded q h) e = absurd (omega arith)
   left-by (later k q h f) e = absurd (omega arith)
-  left-by (good {x} t q h m f) e =
+  left-by (good {x} t q h m f c) e =
       let s = sized p (made p q) in
       let room : length (x .rows) ≤ l .mints / 65 = omega (arith, rows-room (made p q)) in
-      let c : length (t .mints) ≡ length (x .rows) = rw m (length-map (x .rows) mintRow) in
+      let k : length (t .mints) ≡ length (x .rows) = rw m (length-map (x .rows) mintRow) in
       record {
         table = x;
         is = q;
-        count = c;
+        count = k;
         bytes = rw m refl;
-        items = rw (c, m) (mints-rows (x .rows) (l .mints) s room);
-        read = rw (c, m) (mints-written (x .rows) (l .mints) s room);
+        items = rw (k, m) (mints-rows (x .rows) (l .mints) s room);
+        read = rw (k, m) (mints-written (x .rows) (l .mints) s room);
       }
 
   judged-by : {r : Routed} → Ways p l r → ClearsSeven r → Judged p l r
@@ -65,21 +65,28 @@ module _ {p : List ℕ} {l : Lent} where
   judged-by (early n k h f) (inr e) = absurd (omega arith)
   judged-by (crowded {x} q h) e = record { table = x; is = q; short = λ s. h; full = λ s. record { number = refl; place = refl } }
   judged-by (later {x} k q h f) e = record { table = x; is = q; short = λ s. absurd (omega (arith, s .place)); full = λ s. absurd (omega arith) }
-  judged-by (good {x} t q h m f) e = record { table = x; is = q; short = λ s. absurd (omega (arith, s .number)); full = λ s. absurd (omega arith) }
+  judged-by (good {x} t q h m f c) e = record { table = x; is = q; short = λ s. absurd (omega (arith, s .number)); full = λ s. absurd (omega arith) }
 
   seven-by : {r : Routed} → Ways p l r → r .answer .number ≢ 7
   unfolding refused accepted
   seven-by (early n k h f) e = omega arith
   seven-by (crowded q h) e = omega arith
   seven-by (later k q h f) e = omega arith
-  seven-by (good t q h m f) e = omega arith
+  seven-by (good t q h m f c) e = omega arith
 
   passes-by : {r : Routed} → Ways p l r → r .answer .passes ≤ 256
   unfolding refused accepted
   passes-by (early n k h f) = omega arith
   passes-by (crowded q h) = omega arith
   passes-by (later k q h f) = omega arith
-  passes-by (good t q h m f) = f
+  passes-by (good t q h m f c) = f
+
+  tests-by : {r : Routed} → Ways p l r → FewTests (r .answer .invocations) (r .answer .tests)
+  unfolding refused accepted
+  tests-by (early n k h f) = (λ e. refl, λ h. absurd (omega arith))
+  tests-by (crowded q h) = (λ e. refl, λ h. absurd (omega arith))
+  tests-by (later k q h f) = (λ e. refl, λ h. absurd (omega arith))
+  tests-by (good t q h m f c) = c
 
 module _ (names p : List ℕ) (l : Lent) where
   -- with at most 256 keys the passes suffice: no call is refused with 7
@@ -89,6 +96,10 @@ module _ (names p : List ℕ) (l : Lent) where
   -- and there are at most 256 of them
   pub few-passes : route names p l .answer .passes ≤ 256
   few-passes = passes-by (ways p l names)
+
+  -- the tests are 0 where table 1 has no row, and at most 2n - 2 where it has n
+  pub few-tests : FewTests (route names p l .answer .invocations) (route names p l .answer .tests)
+  few-tests = tests-by (ways p l names)
 
   -- what a call that is not refused leaves in table 0
   pub left : Succeeds (route names p l) → Left p l (route names p l)
@@ -123,6 +134,15 @@ module _ (names p : List ℕ) (l : Lent) where
   -- one recorded mint is kept, with mark 0
   pub left-kept : {a m : Key} → Succeeds (route names p l) → One (evidenceIn p) a m → List·Memᴰ (a, m, 0) (mintsLeft (route names p l))
   left-kept e o = let t = left e in rw (t .read) (row-kept (made p (t .is)) o)
+
+  -- a row has mark 0 exactly when its mint is the one recorded for its account
+  pub left-mark : {a m : Key} {n : ℕ} → Succeeds (route names p l) → List·Memᴰ (a, m, n) (mintsLeft (route names p l)) → (n ≡ 0) ↔ One (evidenceIn p) a m
+  left-mark e i = let t = left e in row-recorded (made p (t .is)) (rw (t .read) at i)
+
+  -- a mint that is filled in is marked: 1 or 2 exactly where nothing is recorded for the account
+  pub left-filled : {a m : Key} {n : ℕ} → Succeeds (route names p l) → List·Memᴰ (a, m, n) (mintsLeft (route names p l))
+      → ((n ≡ 1) ⊎ (n ≡ 2)) ↔ Free (evidenceIn p) a
+  left-filled e i = let t = left e in row-filled (made p (t .is)) (rw (t .read) at i)
 
   -- with no chains from two different mints to one account, every account filled in has mark 1
   pub left-sure : {a m : Key} {n : ℕ} → Succeeds (route names p l) → Apart (evidenceIn p) (plainsIn p) → Free (evidenceIn p) a

@@ -1,39 +1,61 @@
 -- The ways in which a call ends, by the mint table of its pack.
 -- Assumes nothing.
-use mathlib.Core.Path.{_≡_, refl}
+use mathlib.Core.Path.{_≡_, refl, sym, _∙_}
 use mathlib.Core.Bool.{Bool, true, false, cond}
-use mathlib.Core.List.{List, map}
+use mathlib.Core.List.{List, [], _∷_, map}
 use mathlib.Core.Option.{Option, some}
-use Prim.Native.Nat.{ℕ, _/_, _≤_, _<_}
+use Prim.Native.Nat.{ℕ, _+_, _*_, _/_, _≤_, _<_}
 use native.Mathlib.Omega.{arith}
 use lib.Dec.{ltb, eqb}
-use lib.ListN.{length}
+use lib.ListN.{length, length-map}
 use borrow.Author.Tests.{ltb-true, ltb-false, eqb-true, eqb-false}
+use Rattle.pack.specs.Invocation.{Position, Invocation}
+use Rattle.pack.specs.View.{viewOf}
+use Rattle.pack.specs.Flatten.{flatten}
 use Rattle.pack.specs.Verdict.{verdict, numberOf, placeOf}
 use Rattle.pack.specs.declared.Verdict.{Verdict}
 use Rattle.pack.specs.declared.Verdict.the-variants.{Good, Mark, Starts, Section, Keys, Invocations}
 use Rattle.evidence.specs.MintTable.{Answer}
 use Rattle.mints.specs.Bytes.{mintRow}
-use Rattle.route.specs.Tables.{Tables, tablesWith, tablesIf, tables}
+use Rattle.subtrees.specs.Subtrees.{tab, testsOf}
+use Rattle.subtrees.proofs.Arrays.{tab-length}
+use Rattle.subtrees.proofs.Claims.{tests-none, tests-bound}
+use Rattle.route.specs.Tables.{Tables, positionsOf, instructionsOf, tablesWith, tablesIf, tables}
 use Rattle.route.specs.Route.{Lent, Routed, refused, accepted, fitted, passed, tablesIn, judged, route}
 use Rattle.route.specs.Order.{mintsIn}
 use Rattle.route.proofs.OrderMints.{answered}
+
+-- k tests for n invocations: none for none, else at most 2n - 2
+abbrev pub FewTests : ℕ → ℕ → Type 0
+FewTests n k = (n ≡ 0 → k ≡ 0) × (0 < n → k + 2 ≤ 2 * n)
 
 -- refused with a number from 1 to 6; or, with the mint table x, for want of room in table 0 or in a later table; or accepted
 pub data Ways (p : List ℕ) (l : Lent) : Routed → Type 0 where
   early : (n k : ℕ) → 0 < n → n < 7 → Ways p l (refused n k l)
   crowded : {x : Answer} → mintsIn p ≡ some x → l .mints / 65 < x .room → Ways p l (refused 8 0 l)
   later : {x : Answer} (k : ℕ) → mintsIn p ≡ some x → x .room ≤ l .mints / 65 → 0 < k → Ways p l (refused 8 k l)
-  good : {x : Answer} (t : Tables) → mintsIn p ≡ some x → x .room ≤ l .mints / 65 → t .mints ≡ map mintRow (x .rows) → t .passes ≤ 256 → Ways p l (accepted t l)
+  good : {x : Answer} (t : Tables) → mintsIn p ≡ some x → x .room ≤ l .mints / 65 → t .mints ≡ map mintRow (x .rows) → t .passes ≤ 256
+      → FewTests (length (t .invocations)) (t .tests) → Ways p l (accepted t l)
 
 -- tables with the rows, the room and the passes of a mint table
 data Of (x : Answer) : Option Tables → Type 0 where
-  with-mints : {t : Tables} → t .mints ≡ map mintRow (x .rows) → t .room ≡ x .room → t .passes ≡ x .passes → Of x (some t)
+  with-mints : {t : Tables} → t .mints ≡ map mintRow (x .rows) → t .room ≡ x .room → t .passes ≡ x .passes → FewTests (length (t .invocations)) (t .tests) → Of x (some t)
+
+-- the tests of positions are few
+position-tests : (ps : List Position) → FewTests (length ps) (testsOf ps)
+position-tests [] = (λ e. tests-none, λ h. absurd (omega arith))
+position-tests (x ∷ ps) = (λ e. absurd (omega arith), λ h. tests-bound (x ∷ ps) h)
+
+-- so they are beside a row for each invocation
+invocation-tests : (f : ℕ → List ℕ) (vs : List Invocation) → FewTests (length (tab f 0 (length (instructionsOf vs)))) (testsOf (positionsOf vs))
+invocation-tests f vs =
+    let n : length (tab f 0 (length (instructionsOf vs))) ≡ length (positionsOf vs) = tab-length f 0 (length (instructionsOf vs)) ∙ length-map vs (λ v. v .instruction) ∙ sym (length-map vs (λ v. v .position)) in
+    rw n (position-tests (positionsOf vs))
 
 -- the tables of a pack are such
 tables-of : (names p : List ℕ) {x : Answer} → mintsIn p ≡ some x → Of x (tablesIn names p)
 unfolding tables tablesIf tablesWith
-tables-of names p q = rw q (with-mints refl refl refl)
+tables-of names p q = rw q (with-mints refl refl refl (invocation-tests _ (flatten (viewOf p))))
 
 few : (v : Verdict) → numberOf v < 7
 few Good = omega arith
@@ -44,9 +66,9 @@ few Keys = omega arith
 few Invocations = omega arith
 
 module _ (p : List ℕ) (l : Lent) where
-  fitted-ways : {x : Answer} (t : Tables) → mintsIn p ≡ some x → t .mints ≡ map mintRow (x .rows) → t .room ≡ x .room → t .passes ≤ 256 → Ways p l (fitted t l)
+  fitted-ways : {x : Answer} (t : Tables) → mintsIn p ≡ some x → t .mints ≡ map mintRow (x .rows) → t .room ≡ x .room → t .passes ≤ 256 → FewTests (length (t .invocations)) (t .tests) → Ways p l (fitted t l)
   unfolding fitted
-  fitted-ways {x} t q m r s =
+  fitted-ways {x} t q m r s c =
       go
       (ltb (l .mints / 65) (t .room))
       (ltb (l .invocations / 23) (length (t .invocations)))
@@ -63,11 +85,11 @@ module _ (p : List ℕ) (l : Lent) where
       go false false true b3 b4 f h = later 2 q (h refl) (omega arith)
       go false false false true b4 f h = later 3 q (h refl) (omega arith)
       go false false false false true f h = later 4 q (h refl) (omega arith)
-      go false false false false false f h = good t q (h refl) m s
+      go false false false false false f h = good t q (h refl) m s c
 
   passed-ways : {x : Answer} (o : Option Tables) → mintsIn p ≡ some x → x .passes ≤ 256 → Of x o → Ways p l (passed o l)
   unfolding passed
-  passed-ways (some t) q h (with-mints m r s) = fitted-ways t q m r (omega arith)
+  passed-ways (some t) q h (with-mints m r s c) = fitted-ways t q m r (omega arith) c
 
   -- every call ends in one of these ways
   pub ways : (names : List ℕ) → Ways p l (route names p l)

@@ -1,4 +1,4 @@
--- The marked cases a to k of document 01, in one list: a pack in its parts, and what is to be seen in what the call leaves of it.
+-- The marked cases a to k, in one list: a pack in its parts, and what is to be seen in what the call leaves of it.
 -- Assumes nothing.
 use Prim.Native.Nat.{ℕ, suc}
 use mathlib.Core.List.{List, [], _∷_, _++_, map}

@@ -1,0 +1,62 @@
+-- Order does not matter, over two calls: of the answers and the bytes that the contract `Leaves` promises, for two packs with the same evidence.
+-- Assumes nothing.
+use mathlib.Core.Path.{_≡_, sym, subst, _∙_}
+use mathlib.Core.Logic.{_⊎_, _↔_}
+use mathlib.Core.List.{List, List·Memᴰ}
+use Prim.Native.Nat.{ℕ}
+use Rattle.ids.specs.Keys.{Key}
+use Rattle.evidence.specs.Evidence.{One}
+use Rattle.evidence.specs.Independence.{Apart, Unjoined, unjoined-apart}
+use Rattle.evidence.specs.MintTable.{rowAccounts}
+use Rattle.route.specs.declared.Answer.{Answer}
+use Rattle.route.specs.Route.{Lent, lent, Routed, route, Leaves}
+use Rattle.route.specs.Order.{evidenceIn, plainsIn, SameEvidence, mintsRead, NoRoom}
+use Rattle.route.proofs.Order.{same-accounts, same-count, same-recorded, same-bytes, same-room}
+
+-- refused for want of room in table 0
+abbrev pub Crowded : Answer → Type 0
+Crowded r = (r .number ≡ 8) × (r .place ≡ 0)
+
+-- two calls with the same names, tables of the same five lengths, and packs with the same evidence
+module _ {names p q t0 t1 t2 t3 t4 u0 u1 u2 u3 u4 : List ℕ} {r r′ : Answer} {o0 o1 o2 o3 o4 o0′ o1′ o2′ o3′ o4′ : List ℕ} (x : Leaves names p t0 t1 t2 t3 t4 r o0 o1 o2 o3 o4) (y : Leaves names q u0 u1 u2 u3 u4 r′ o0′ o1′ o2′ o3′ o4′) (k : lent t0 t1 t2 t3 t4 ≡ lent u0 u1 u2 u3 u4) (h : SameEvidence p q) where
+  answer-right : r′ ≡ route names q (lent t0 t1 t2 t3 t4) .answer
+  answer-right = subst (λ (l : Lent). r′ ≡ route names q l .answer) (sym k) (y .answer)
+
+  mints-right : o0′ ≡ route names q (lent t0 t1 t2 t3 t4) .mints
+  mints-right = subst (λ (l : Lent). o0′ ≡ route names q l .mints) (sym k) (y .mints)
+
+  -- neither of them refused
+  module _ (a : r .number ≡ 0) (b : r′ .number ≡ 0) where
+    first : route names p (lent t0 t1 t2 t3 t4) .answer .number ≡ 0
+    first = rw (x .answer) at a
+
+    second : route names q (lent t0 t1 t2 t3 t4) .answer .number ≡ 0
+    second = rw answer-right at b
+
+    -- (i) the same accounts, in the same rows
+    pub same-table-count : r .mints ≡ r′ .mints
+    same-table-count = rw (x .answer, answer-right) (same-count names (lent t0 t1 t2 t3 t4) h first second)
+
+    pub same-table-accounts : rowAccounts (mintsRead (r .mints) o0) ≡ rowAccounts (mintsRead (r′ .mints) o0′)
+    same-table-accounts = rw (x .answer, x .mints, answer-right, mints-right) (same-accounts names (lent t0 t1 t2 t3 t4) h first second)
+
+    -- one recorded mint is in both, with mark 0
+    pub same-table-recorded : {c m : Key} → One (evidenceIn p) c m → List·Memᴰ (c, m, 0) (mintsRead (r .mints) o0) × List·Memᴰ (c, m, 0) (mintsRead (r′ .mints) o0′)
+    same-table-recorded o = rw (x .answer, x .mints, answer-right, mints-right) (same-recorded names (lent t0 t1 t2 t3 t4) h first second o)
+
+    -- (iii) no account reached from two different recorded mints: the two tables are equal, byte for byte
+    pub same-table : Apart (evidenceIn p) (plainsIn p) → o0 ≡ o0′
+    same-table d = x .mints ∙ same-bytes names (lent t0 t1 t2 t3 t4) h first second d ∙ sym mints-right
+
+    -- so they are where no chain joins two accounts recorded with different mints
+    pub same-table-unjoined : Unjoined (evidenceIn p) (plainsIn p) → o0 ≡ o0′
+    same-table-unjoined d = same-table (unjoined-apart d)
+
+  -- (iv) neither refused with 1 to 7: for want of room in table 0 both are refused, or neither
+  pub same-table-room : (r .number ≡ 0) ⊎ (r .number ≡ 8) → (r′ .number ≡ 0) ⊎ (r′ .number ≡ 8) → Crowded r ↔ Crowded r′
+  same-table-room a b =
+      let s = same-room names (lent t0 t1 t2 t3 t4) h (rw (x .answer) at a) (rw answer-right at b) in
+      rw (x .answer, answer-right) (λ c. pair (s .0 (record { number = c .0; place = c .1 })), λ c. pair (s .1 (record { number = c .0; place = c .1 })))
+    where
+      pair : {c : Routed} → NoRoom c → Crowded (c .answer)
+      pair n = (n .number, n .place)
