@@ -19,7 +19,7 @@ use Rattle.token.proofs.Laws.{moved-value}
 use Rattle.token.proofs.Reading.{read-none}
 use Rattle.route.specs.Lay.{placed}
 use Rattle.route.specs.Known.{rowIf}
-use Rattle.route.specs.Mints.{programOf}
+use Rattle.route.specs.Program.{programOf}
 use Rattle.route.specs.Transfers.{transferOf, movedCount}
 
 pub count-le : (m : Moved) → movedCount m ≤ 1

@@ -2,7 +2,7 @@ use native.Mathlib.Omega.{arith}
 use Rattle.route.proofs.Moving.{count-le, no-transfer, row-counted, row-placed}
 use Rattle.route.specs.Known.{mintAt}
 use Rattle.route.specs.Lay.{placed}
-use Rattle.route.specs.Mints.{programOf}
+use Rattle.route.specs.Program.{programOf}
 use Rattle.route.specs.Transfers.{transferOf, transferRows}
 use Rattle.token.specs.Programs.{isToken}
 use Rattle.token.specs.Moved.{valueOf, sourceBy}
