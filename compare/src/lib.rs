@@ -12,3 +12,15 @@ pub mod oracle;
 pub mod sample;
 pub mod speed;
 pub mod stored;
+
+use std::process::ExitCode;
+
+/// Prints the closing line of a comparison, which `./test` adds up: a success only if nothing failed.
+pub fn close(passed: usize, failed: usize) -> ExitCode {
+    println!("{passed} passed, {failed} failed");
+    if failed == 0 {
+        ExitCode::SUCCESS
+    } else {
+        ExitCode::FAILURE
+    }
+}

@@ -5,6 +5,7 @@
 
 use compare::calls::Calls;
 use compare::checks::damaged;
+use compare::close;
 use compare::library::Library;
 use std::env;
 use std::ops::Range;
@@ -32,12 +33,7 @@ fn main() -> ExitCode {
         println!("the smallest pack: {} bytes, seed {}", smallest.bytes, smallest.seed);
     }
     println!("{} packs, {} calls", to.saturating_sub(from), found.calls);
-    println!("{} passed, {} failed", found.passed, found.failed);
-    if found.failed == 0 {
-        ExitCode::SUCCESS
-    } else {
-        ExitCode::FAILURE
-    }
+    close(found.passed, found.failed)
 }
 
 /// Answers and orders that are right and wrong, and the wrong ones that were told of.

@@ -1,6 +1,7 @@
 //! Compares the library with the oracle over the grids. Of packs that differ, the shortest instruction
 //! that differs alone is told. The last line says how many packs passed and failed.
 
+use compare::close;
 use compare::generate::Case;
 use compare::grids::{alone, shares, Share};
 use compare::library::{Library, Verdict};
@@ -15,8 +16,7 @@ const REPLAY: &str = concat!(env!("CARGO_MANIFEST_DIR"), "/../target/bin/replay"
 fn main() -> ExitCode {
     if cfg!(not(feature = "link")) && !Path::new(REPLAY).exists() {
         println!("{REPLAY} is missing: nothing was compared");
-        println!("0 passed, 1 failed");
-        return ExitCode::FAILURE;
+        return close(0, 1);
     }
     let found = compare_all(&shares());
     println!(
@@ -24,12 +24,7 @@ fn main() -> ExitCode {
         found.rows[1],
         found.rows.map(|n| n.to_string()).join(" ")
     );
-    println!("{} passed, {} failed", found.passed, found.failed);
-    if found.failed == 0 {
-        ExitCode::SUCCESS
-    } else {
-        ExitCode::FAILURE
-    }
+    close(found.passed, found.failed)
 }
 
 /// Packs, and the rows of the five tables that the oracle answered.

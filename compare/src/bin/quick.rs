@@ -4,6 +4,7 @@
 use compare::checks::{
     cases::CASES, chosen, coverage, ids, mutants, packs, refusals::REFUSALS, sample, Outcome,
 };
+use compare::close;
 use std::process::ExitCode;
 
 const SEEDS: u64 = 20_000;
@@ -31,12 +32,7 @@ fn main() -> ExitCode {
     for (mutant, first) in mutants::first_noticed(0..SEEDS) {
         tally.add(mutant, first.map(|_| ()).ok_or("is not noticed".to_string()));
     }
-    println!("{} passed, {} failed", tally.passed, tally.failed);
-    if tally.failed == 0 {
-        ExitCode::SUCCESS
-    } else {
-        ExitCode::FAILURE
-    }
+    close(tally.passed, tally.failed)
 }
 
 #[derive(Default)]

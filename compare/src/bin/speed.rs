@@ -22,20 +22,21 @@ const BATCH: Duration = Duration::from_millis(50);
 
 fn main() -> ExitCode {
     let words: Vec<String> = env::args().skip(1).collect();
-    let packs: Vec<_> = packs().iter().map(Sides::of).collect();
+    let packs = packs();
     match &words[..] {
         [] => {
             println!("pack original exact ratio full ratio (nanoseconds a call)");
-            packs.iter().for_each(Sides::print_times);
+            packs.iter().map(Sides::of).for_each(|pack| pack.print_times());
             ExitCode::SUCCESS
         }
         [names] if names == "names" => {
-            packs.iter().for_each(|pack| println!("{} {}", pack.name, pack.about));
+            let packs = packs.iter().map(Sides::of);
+            packs.for_each(|pack| println!("{} {}", pack.name, pack.about));
             ExitCode::SUCCESS
         }
         [name, side, calls] => {
-            match (packs.into_iter().find(|pack| pack.name == *name), calls.parse()) {
-                (Some(mut pack), Ok(calls)) => pack.run(side, calls),
+            match (packs.iter().find(|pack| pack.name == *name), calls.parse()) {
+                (Some(pack), Ok(calls)) => Sides::of(pack).run(side, calls),
                 _ => usage(),
             }
         }
@@ -92,7 +93,7 @@ impl Sides {
         black_box(answer).expect("the packs are not refused");
     }
 
-    fn run(&mut self, side: &str, calls: usize) -> ExitCode {
+    fn run(&self, side: &str, calls: usize) -> ExitCode {
         let mut tables = match side {
             "exact" | "original" => self.exact.clone(),
             "full" => self.full.clone(),

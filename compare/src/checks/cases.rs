@@ -1,4 +1,4 @@
-//! Cases a to k of document 01, its listing, and examples that settle how it is read.
+//! Cases a to k, the listing of a small pack, and examples that settle how the format is read.
 
 use super::{hold, same, Example, Outcome};
 use crate::listing::{listing, ROOM};
