@@ -1,11 +1,10 @@
 -- What is written of a leg that is known by its index bytes.
 -- Assumes nothing.
 use mathlib.Core.Path.{_≡_, refl, _∙_}
-use mathlib.Core.Bool.{Bool, true, false, cond}
+use mathlib.Core.Bool.{cond}
 use mathlib.Core.List.{List}
-use mathlib.Core.Option.{Option, none, some}
-use Prim.Native.Nat.{ℕ, _+_}
-use native.Mathlib.Omega.{arith}
+use mathlib.Core.Option.{Option, none}
+use Prim.Native.Nat.{ℕ}
 use Rattle.ids.specs.Keys.{Key, keyOf}
 use Rattle.ids.specs.declared.Id.{Id}
 use Rattle.ids.specs.declared.Id.the-variants.{SplToken, Token2022, WrappedSol, ComputeBudget, AssociatedToken, Memo, PumpFun, LaunchLab, PumpSwap, Clmm, Cpmm, AmmV4, Orca, Dlmm, System, Other, Unresolved}
@@ -14,7 +13,7 @@ use Rattle.swaps.specs.Leg.{valued}
 use Rattle.swaps.specs.Swap.{byProgram, swap}
 use Rattle.evidence.specs.MintTable.{MintRow, mintIn}
 use Rattle.route.specs.Legs.{legOf}
-use Rattle.route.specs.Program.{programOf, skips, resolved, programBits}
+use Rattle.route.specs.Program.{programOf, skips, programBits}
 
 -- a program that routes pass over has no leg anyway
 skipped : (names : List ℕ) (κ : ℕ → Key) (id : Id) (accounts bytes : List ℕ) (μ : Key → Option Key) (pools : List Key)
@@ -44,12 +43,26 @@ pub leg-swap : (names ks : List ℕ) (pools : List Key) (table : List MintRow) (
 unfolding legOf
 leg-swap names ks pools table x = skipped names (keyOf ks) (programOf ks x) (x .accounts) (x .bytes) (mintIn table) pools
 
--- a program with bits 4 and 8 is passed over, and no leg of it is looked for
-passes-over : (s r : Bool) → cond s 4 0 + cond r 8 0 ≡ 12 → s ≡ true
-passes-over true r e = refl
-passes-over false true e = absurd (omega arith)
-passes-over false false e = absurd (omega arith)
+-- only a program with bit 8 alone has legs
+idle : (names : List ℕ) (κ : ℕ → Key) (id : Id) (accounts bytes : List ℕ) (μ : Key → Option Key) (pools : List Key) → (programBits id ≡ 8 → ⊥) → swap names κ id accounts bytes μ pools ≡ none
+unfolding programBits swap byProgram valued
+idle names κ SplToken accounts bytes μ pools h = refl
+idle names κ Token2022 accounts bytes μ pools h = refl
+idle names κ WrappedSol accounts bytes μ pools h = absurd (h refl)
+idle names κ ComputeBudget accounts bytes μ pools h = refl
+idle names κ AssociatedToken accounts bytes μ pools h = refl
+idle names κ Memo accounts bytes μ pools h = refl
+idle names κ PumpFun accounts bytes μ pools h = absurd (h refl)
+idle names κ LaunchLab accounts bytes μ pools h = absurd (h refl)
+idle names κ PumpSwap accounts bytes μ pools h = absurd (h refl)
+idle names κ Clmm accounts bytes μ pools h = absurd (h refl)
+idle names κ Cpmm accounts bytes μ pools h = absurd (h refl)
+idle names κ AmmV4 accounts bytes μ pools h = absurd (h refl)
+idle names κ Orca accounts bytes μ pools h = absurd (h refl)
+idle names κ Dlmm accounts bytes μ pools h = absurd (h refl)
+idle names κ System accounts bytes μ pools h = refl
+idle names κ Other accounts bytes μ pools h = absurd (h refl)
+idle names κ Unresolved accounts bytes μ pools h = refl
 
-pub passed-over : (names ks : List ℕ) (pools : List Key) (table : List MintRow) (x : Instruction) → programBits (programOf ks x) ≡ 12 → legOf names ks pools table x ≡ none
-unfolding legOf programBits
-passed-over names ks pools table x e = rw (passes-over (skips (programOf ks x)) (resolved (programOf ks x)) e)
+pub passed-over : (names ks : List ℕ) (pools : List Key) (table : List MintRow) (x : Instruction) → (programBits (programOf ks x) ≡ 8 → ⊥) → legOf names ks pools table x ≡ none
+passed-over names ks pools table x h = leg-swap names ks pools table x ∙ idle names (keyOf ks) (programOf ks x) (x .accounts) (x .bytes) (mintIn table) pools h

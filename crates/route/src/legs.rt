@@ -31,8 +31,8 @@ fn put_one<'a>(
 {
     let program = wide(pack::program(pack, at));
     let id = ids::cases::program(keys, cases, program);
-    // No leg is looked for where a route passes over the program.
-    if program_bits(id) == 12 {
+    // No leg is looked for where the program is not resolved, or a route passes over it.
+    if program_bits(id) != 8 {
         return 0;
     }
     let found = swaps::leg(

@@ -56,8 +56,8 @@ returns c =
     let x = instructionAt (a .pack .now) (a .at) in
     let ks = a .keys .now in
     let pools = poolsOf (a .pools .now) in
-    let e : programBits (programOf ks x) ≡ 12 =
-    sym (c .before .program-bits .ensures ∙ rw (c .before .before .program2 .ensures, case-in ks (a .cases .now) (c .before .before .before .wide .result) (c .before .before .before .before .before .before .before .before .before .before .before .pre .2), c .before .before .before .wide .ensures, c .before .before .before .before .program .ensures)) ∙ c .if1 .taken in
+    let e : programBits (programOf ks x) ≡ 8 → ⊥ =
+    λ z. (c .if1 .taken) ((c .before .program-bits .ensures ∙ rw (c .before .before .program2 .ensures, case-in ks (a .cases .now) (c .before .before .before .wide .result) (c .before .before .before .before .before .before .before .before .before .before .before .pre .2), c .before .before .before .wide .ensures, c .before .before .before .before .program .ensures)) ∙ z) in
     record { few = omega arith; counted = λ table h. rw (passed-over (a .names .now) ks pools table x e); rows = λ table h. rw (passed-over (a .names .now) ks pools table x e) }
 
 -- src/legs.rt:31:45
