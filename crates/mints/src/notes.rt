@@ -149,6 +149,10 @@ fn token_at(keys: &[u8], cases: &[u8; 256], pack: &[u8], at: usize) -> Token
     ensures { λ r. ⌜ r ≡ tokenAt (now (keys .entry)) (now (pack .entry)) at ⌝ }
 {
     let id = ids::cases::program(keys, cases, pack::program(pack, at) as usize);
+    // Nothing is read of other programs.
+    if !token::token_program(id) {
+        return Token::Other;
+    }
     let n = pack::accounts(pack, at).len();
     token::parse(id, n, pack::data(pack, at))
 }
