@@ -119,9 +119,9 @@ fn pools() -> Pack {
     };
     let half = MAX_BYTES / 2;
     let outer = vec![leg; half / 45];
-    filled(Pack { keys, outer, ..Pack::default() }, 32, |pack, k| {
-        pack.pools.push(look_alike(k % 256))
-    })
+    // Of the keys that differ in the last byte only, number 7 is the pool itself.
+    let other = |k: usize| look_alike(8 + k % 248);
+    filled(Pack { keys, outer, ..Pack::default() }, 32, |pack, k| pack.pools.push(other(k)))
 }
 
 /// As many keys as can be, and as many balances as fit.
