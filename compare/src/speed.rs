@@ -60,8 +60,8 @@ fn bytes(count: usize) -> Pack {
     Pack { outer: vec![Instruction { data, ..Instruction::default() }], ..Pack::default() }
 }
 
-/// The most work for the passes: 255 accounts and four transfers for each two neighbours, which hand
-/// one mint along the line against its order.
+/// The most work for the passes, 256 of them over 1,024 plain transfers: each two neighbours in the
+/// line of all keys have four, which hand one mint along the line against its order.
 fn passes() -> Pack {
     let mut keys: Vec<KeyRow> = (1..MAX_KEYS).map(|k| row(look_alike(k))).collect();
     keys.push(row(original::ids()[SPL_TOKEN]));
@@ -70,7 +70,8 @@ fn passes() -> Pack {
         accounts: vec![k as u8 - 1, k as u8, 0],
         data: vec![3; 9],
     };
-    let outer = (1..MAX_KEYS - 1).rev().flat_map(|k| vec![transfer(k); 4]).collect();
+    let mut outer: Vec<_> = (1..MAX_KEYS).rev().flat_map(|k| vec![transfer(k); 4]).collect();
+    outer.resize(MAX_INVOCATIONS, transfer(1));
     Pack { keys, balances: vec![Balance { account: 0, mint: [9; 32] }], outer, ..Pack::default() }
 }
 
