@@ -6,8 +6,8 @@ use mathlib.Core.List.{List, _++_}
 use Prim.Native.Nat.{ℕ, zero, suc, _+_, _*_, _/_, _%_, _^_, _-_, _≤_, _<_}
 use native.Mathlib.Nat.{add-zero, add-suc, add-assoc, zero-mul, add-mul, mul-assoc, mul-comm, pow-suc, pow-succ', zero-add, suc-add, div-one, div-div-eq-div-mul, one-le-pow}
 use native.Mathlib.Omega.{arith}
-use lib.ListN.{length, getD, take, drop, drop-of-length-le, length-drop, length-take, List·getD-eq-default}
-use lib.Seq.{sets, take-length, drop-cons, getD-take, getD-drop}
+use lib.ListN.{length, getD, take, drop, List·getD-eq-default}
+use lib.Seq.{drop-cons}
 use lib.Dec.{ltb}
 use borrow.Author.Tests.{ltb-true, ltb-false}
 use lib.Pow.{pow-add}
@@ -92,9 +92,5 @@ le-back (suc n) s at h f =
     (le-first n s at, first-of (getD s at 0) (le n s (suc at)) low, rest-of (getD s at 0) (le n s (suc at)) low, le-back n s (suc at) (λ k l. rw (suc-add at k, ← (add-suc at k)) (h (suc k) (omega arith))) (omega arith), drop-cons s at 0 (omega arith))
 
 -- bytes that are one number are the same bytes
-pub le-same : (n : ℕ) (a b : List ℕ) (at : ℕ) → Bytes a at n → Bytes b at n → at + n ≤ length a → at + n ≤ length b → le n a at ≡ le n b at → (k : ℕ) → k < n → getD a (at + k) 0 ≡ getD b (at + k) 0
-le-same n a b at h g la lb e k l =
-    sym (one a) ∙ (ap (λ (t : List ℕ). getD t k 0) (sym (le-back n a at h la) ∙ (ap (leBytes n) e ∙ le-back n b at g lb)) ∙ one b)
-  where
-    one : (s : List ℕ) → getD (take n (drop at s)) k 0 ≡ getD s (at + k) 0
-    one s = getD-take n (drop at s) k 0 l ∙ getD-drop at s k 0
+pub le-same : (n : ℕ) (a b : List ℕ) (at : ℕ) → Bytes a at n → Bytes b at n → at + n ≤ length a → at + n ≤ length b → le n a at ≡ le n b at → take n (drop at a) ≡ take n (drop at b)
+le-same n a b at h g la lb e = sym (le-back n a at h la) ∙ (ap (leBytes n) e ∙ le-back n b at g lb)

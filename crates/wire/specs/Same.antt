@@ -1,14 +1,14 @@
 -- Whether two runs of bytes are the same, and the laws by which proofs use the test.
 -- Assumes nothing.
-use mathlib.Core.Path.{_≡_, refl, ap, ap₂, subst}
+use mathlib.Core.Path.{_≡_, refl, sym, ap, ap₂, subst, _∙_}
 use mathlib.Core.Logic.{_≢_}
 use mathlib.Core.Bool.{Bool, true, false, _&&_}
-use mathlib.Core.List.{List, [], _∷_}
-use Prim.Native.Nat.{ℕ, _+_, _-_, _<_, _≤_}
-use native.Mathlib.Omega.{arith}
-use borrow.Author.Tests.{eq-eqb, eqb-true, ltb-true, ltb-false}
-use lib.Dec.{eqb, ltb}
-use lib.ListN.{length, getD}
+use mathlib.Core.List.{List, [], _∷_, _++_}
+use Prim.Native.Nat.{ℕ, _+_}
+use borrow.Author.Tests.{eq-eqb, eqb-true}
+use lib.Dec.{eqb}
+use lib.ListN.{length, getD, take, drop, take-append-drop}
+use lib.Seq.{drop-drop}
 use Rattle.wire.specs.Below.{and-left, and-right}
 
 -- equal length, and equal byte by byte
@@ -51,17 +51,15 @@ same-not-at a b j h = same-ne (λ e. h (ap (λ (l : List ℕ). getD l j 0) e))
 pub same-not-long : (a b : List ℕ) → (length a ≡ length b → ⊥) → same a b ≡ false
 same-not-long a b h = same-ne (λ e. h (ap length e))
 
--- r bytes from i on are the same; where r is 0, the runs are not
-abbrev pub Agrees : List ℕ → List ℕ → ℕ → ℕ → Type 0
-Agrees a b i r = (r ≡ 0 → same a b ≡ false) × (i + r ≤ length a) × ((k : ℕ) → k < r → getD a (i + k) 0 ≡ getD b (i + k) 0)
+-- a common beginning does not count
+same-behind : (p a b : List ℕ) → same (p ++ a) (p ++ b) ≡ same a b
+unfolding same
+same-behind [] a b = refl
+same-behind (x ∷ p) a b = rw (eq-eqb x x refl) (same-behind p a b)
 
--- the bytes before i are the same, and r from i on
-pub agree-on : (a b : List ℕ) (i r : ℕ) → ((m : ℕ) → m < i → getD a m 0 ≡ getD b m 0) → ((k : ℕ) → k < r → getD a (i + k) 0 ≡ getD b (i + k) 0) → (m : ℕ) → m < i + r → getD a m 0 ≡ getD b m 0
-agree-on a b i r h g m l = go (ltb m i) refl
-  where
-    far : i ≤ m → i + (m - i) ≡ m
-    far e = omega arith
-
-    go : (t : Bool) → ltb m i ≡ t → getD a m 0 ≡ getD b m 0
-    go true e = h m (ltb-true m i e)
-    go false e = let f = ltb-false m i e in subst (λ (z : ℕ). getD a z 0 ≡ getD b z 0) (far f) (g (m - i) (omega arith))
+-- runs whose next n bytes are equal
+pub same-step : (a b : List ℕ) (i n : ℕ) → take n (drop i a) ≡ take n (drop i b) → same (drop (i + n) a) (drop (i + n) b) ≡ same (drop i a) (drop i b)
+same-step a b i n e =
+    rw (← drop-drop n i a, ← drop-drop n i b)
+    (sym (same-behind (take n (drop i a)) (drop n (drop i a)) (drop n (drop i b)))
+    ∙ ap₂ same (take-append-drop n (drop i a)) (ap (λ (p : List ℕ). p ++ drop n (drop i b)) e ∙ take-append-drop n (drop i b)))

@@ -1,13 +1,13 @@
 -- Laws of `sets l i vs`, the list l with vs stored from place i on: the form of a promise on a lent table.
 -- Assumes nothing.
 use mathlib.Core.Path.{_≡_, refl, sym, ap, _∙_}
-use mathlib.Core.List.{List, [], _∷_, _++_, append-assoc}
+use mathlib.Core.List.{List, [], _∷_, _++_}
 use Prim.Native.Nat.{ℕ, zero, suc, _+_, _≤_, _<_}
 use native.Mathlib.Nat.{add-zero, add-suc, suc-add}
 use native.Mathlib.Numerals.{add-one}
 use native.Mathlib.Omega.{arith}
 use lib.ListN.{length, getD, take, drop, set, length-set, take-append-drop}
-use lib.Seq.{sets, sets-eq, length-sets, drop-drop, set-out, set-comm, take-suc, length-take-le, getD-set-same, getD-set-other}
+use lib.Seq.{sets, length-sets, set-out, set-comm, take-suc, length-take-le, getD-set-same, getD-set-other}
 
 -- a run of stores in two runs
 pub sets-append : (l : List ℕ) (i : ℕ) (a b : List ℕ) → sets l i (a ++ b) ≡ sets (sets l i a) (i + length a) b
@@ -17,6 +17,10 @@ sets-append l i (x ∷ a) b = rw (sets-append (set l i x) (suc i) a b, suc-add, 
 -- stores right after a run of stores
 pub sets-next : (l : List ℕ) (i : ℕ) (a b : List ℕ) (m : ℕ) → i + length a ≡ m → sets (sets l i a) m b ≡ sets l i (a ++ b)
 sets-next l i a b m e = rw (sets-append, e)
+
+-- the first n of a run of stores, and then the rest
+pub sets-rest : (l : List ℕ) (i : ℕ) (vs : List ℕ) (n : ℕ) → n ≤ length vs → sets (sets l i (take n vs)) (i + n) (drop n vs) ≡ sets l i vs
+sets-rest l i vs n h = sets-next l i (take n vs) (drop n vs) (i + n) (rw (length-take-le n vs h)) ∙ ap (sets l i) (take-append-drop n vs)
 
 -- one store more
 pub sets-more : (l : List ℕ) (i : ℕ) (s : List ℕ) (j : ℕ) → j < length s → set (sets l i (take j s)) (i + j) (getD s j 0) ≡ sets l i (take (j + 1) s)
@@ -60,6 +64,4 @@ sets-past l i (v ∷ vs) h = rw (set-out l i v h) (sets-past l (suc i) vs (omega
 -- stores that run past the end
 pub sets-cut : (l : List ℕ) (i : ℕ) (vs : List ℕ) (n : ℕ) → i + n ≡ length l → n ≤ length vs → sets l i (take n vs) ≡ sets l i vs
 sets-cut l i vs n e h =
-    sym (sets-past (sets l i (take n vs)) (i + length (take n vs)) (drop n vs) (rw (length-sets, length-take-le n vs h) (omega arith)))
-    ∙ sym (sets-append l i (take n vs) (drop n vs))
-    ∙ ap (sets l i) (take-append-drop n vs)
+    sym (sets-past (sets l i (take n vs)) (i + n) (drop n vs) (rw length-sets (omega arith))) ∙ sets-rest l i vs n h

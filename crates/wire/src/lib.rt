@@ -2,13 +2,13 @@
 //
 // Every function is total: a byte past the end reads as 0, and a store past the end does nothing. So a contract is one equation, with no condition on
 // offsets, and no caller has to prove that a field fits. Where all bytes of a number are there, they are read and stored in one statement each, which
-// the compiler turns into one load or store; runs are copied and compared eight bytes at a time.
+// the compiler turns into one load or store; runs are copied and compared eight bytes at a time, and what is left byte by byte.
 ghost use mathlib.Core.Path.{_≡_};
-ghost use Prim.Native.Nat.{_+_, _-_, _<_, _≤_};
-ghost use lib.ListN.{length, getD, set, take, drop};
+ghost use Prim.Native.Nat.{_+_, _<_, _≤_};
+ghost use lib.ListN.{length, getD, set, drop};
 ghost use lib.Seq.{sets};
 ghost use Rattle.wire.specs.Le.{le, leBytes, Bytes};
-ghost use Rattle.wire.specs.Same.{same, Agrees};
+ghost use Rattle.wire.specs.Same.{same};
 ghost use Rattle.wire.specs.Zeros.{zeros};
 
 // The byte at `at`.
@@ -160,17 +160,16 @@ pub fn put_u64(d: &mut [u8], at: usize, x: u64)
     put_u32(d, at + 4, (x / 4294967296) as u32);
 }
 
-// Copies eight bytes of a run from place i on, or one where there are fewer; answers how many.
-fn carry(d: &mut [u8], at: usize, s: &[u8], i: usize) -> usize
-    requires { ⌜ (i < length (now s)) × (at + (length (now s) - i) ≤ length (now d)) ⌝ }
-    ensures { λ r. ⌜ (0 < r) × (i + r ≤ length (now (s .entry))) × (now (d .exit) ≡ sets (now (d .entry)) at (take r (drop i (now (s .entry))))) ⌝ }
+// Copies the bytes of a run from place `from` on.
+fn lay_rest(d: &mut [u8], at: usize, s: &[u8], from: usize)
+    requires { ⌜ at + length (now s) ≤ length (now d) ⌝ }
+    ensures { λ _. ⌜ now (d .exit) ≡ sets (now (d .entry)) (at + from) (drop from (now (s .entry))) ⌝ }
 {
-    if 8 <= s.len() - i {
-        put_eight(d, at, eight(s, i));
-        return 8;
+    let mut i = from;
+    while i < s.len() {
+        d[at + i] = s[i];
+        i += 1;
     }
-    d[at] = s[i];
-    1
 }
 
 // Copies a run that fits.
@@ -179,9 +178,11 @@ fn lay(d: &mut [u8], at: usize, s: &[u8])
     ensures { λ _. ⌜ now (d .exit) ≡ sets (now (d .entry)) at (now (s .entry)) ⌝ }
 {
     let mut i = 0;
-    while i < s.len() {
-        i += carry(d, at + i, s, i);
+    while 8 <= s.len() - i {
+        put_eight(d, at + i, eight(s, i));
+        i += 8;
     }
+    lay_rest(d, at, s, i);
 }
 
 // Copies a run into a row.
@@ -210,21 +211,19 @@ pub fn clear(d: &mut [u8])
     }
 }
 
-// How many bytes from place i on are compared at once: eight, or one where there are fewer; none where they differ.
-fn agree(a: &[u8], b: &[u8], i: usize) -> usize
-    requires { ⌜ (i < length (now a)) × (length (now a) ≡ length (now b)) ⌝ }
-    ensures { λ r. ⌜ Agrees (now (a .entry)) (now (b .entry)) i r ⌝ }
+// Whether two runs of one length are the same from place `from` on.
+fn equal_rest(a: &[u8], b: &[u8], from: usize) -> bool
+    requires { ⌜ length (now a) ≡ length (now b) ⌝ }
+    ensures { λ r. ⌜ r ≡ same (drop from (now (a .entry))) (drop from (now (b .entry))) ⌝ }
 {
-    if 8 <= a.len() - i {
-        if eight(a, i) != eight(b, i) {
-            return 0;
+    let mut i = from;
+    while i < a.len() {
+        if a[i] != b[i] {
+            return false;
         }
-        return 8;
+        i += 1;
     }
-    if a[i] != b[i] {
-        return 0;
-    }
-    1
+    true
 }
 
 // Whether two runs are the same.
@@ -235,12 +234,11 @@ pub fn equal(a: &[u8], b: &[u8]) -> bool
         return false;
     }
     let mut i = 0;
-    while i < a.len() {
-        let n = agree(a, b, i);
-        if n == 0 {
+    while 8 <= a.len() - i {
+        if eight(a, i) != eight(b, i) {
             return false;
         }
-        i += n;
+        i += 8;
     }
-    true
+    equal_rest(a, b, i)
 }

@@ -1,60 +1,80 @@
+-- The bytes before i are equal in both, so what follows them decides.
+-- Assumes nothing.
 use native.Mathlib.Omega.{arith}
-use borrow.Author.Count.{below-none}
-use mathlib.Core.Path.{_≡_, sym}
-use Prim.Native.Nat.{ℕ, _-_, _≤_, _<_}
-use lib.Seq.{ext-getD}
-use lib.ListN.{length, getD}
-use Rattle.wire.specs.Same.{same-eq, same-not-long, agree-on}
+use mathlib.Core.Path.{_≡_, refl, sym, ap, _∙_}
+use mathlib.Core.List.{List}
+use Prim.Native.Nat.{ℕ, _-_, _≤_}
+use lib.ListN.{length, drop}
+use Rattle.wire.specs.Le.{le}
+use Rattle.wire.specs.Same.{same, same-ne, same-not-long, same-step}
+use Rattle.wire.proofs.Laws.{le-same}
 use Rattle.wire.proofs.equal.Statement.{statement}
 use Rattle.wire.proofs.equal.Tie as tie
 use Rattle.wire.proofs.equal.Reads as reads
 use Rattle.wire.proofs.equal.Lts as lts
-use Rattle.wire.proofs.agree.Reads as agree-reads
+use Rattle.wire.proofs.eight.Reads as eight-reads
+use Rattle.wire.proofs.equal_rest.Reads as equal-rest-reads
 
 abbrev Inv-loop : tie.InvT-loop
-Inv-loop a b i₀ i = (i ≤ length a) × ((m : ℕ) → m < i → getD a m 0 ≡ getD b m 0)
+Inv-loop a b i₀ i = (i ≤ length a) × (same (drop i a) (drop i b) ≡ same a b)
 
 abbrev μ-loop : tie.MeasureT-loop
 μ-loop a b i₀ i = length a - i
 
--- src/lib.rt:235:9
+-- src/lib.rt:234:9
 returns : tie.Need-returns Inv-loop μ-loop
 returns c = sym (same-not-long (c .before .before .before .args .a .now) (c .before .before .before .args .b .now) (c .if1 .taken))
 
--- src/lib.rt:238:5
+-- src/lib.rt:237:5
 loop-holds : tie.Need-loop-holds Inv-loop μ-loop
-loop-holds c = (omega arith, below-none _)
+loop-holds c = (omega arith, refl)
+
+-- src/lib.rt:237:16
+sub-loop : tie.Need-sub-loop Inv-loop μ-loop
+sub-loop c = omega arith
+
+-- src/lib.rt:238:12
+eight-requires : tie.Need-eight-requires Inv-loop μ-loop
+eight-requires c κs = omega arith
+
+-- src/lib.rt:238:27
+eight-requires-2 : tie.Need-eight-requires-2 Inv-loop μ-loop
+eight-requires-2 c κs = omega arith
 
 -- src/lib.rt:239:13
-agree-requires : tie.Need-agree-requires Inv-loop μ-loop
-agree-requires c κs = (c .loop-test .taken, c .before .before .if1 .left)
-
--- src/lib.rt:241:13
 returns-2 : tie.Need-returns-2 Inv-loop μ-loop
-returns-2 c = sym ((c .before .agree .ensures .0) (c .if2 .taken))
+returns-2 c =
+    let l = c .before .before .before .before .loop in
+    let ea = c .before .before .eight .ensures in
+    let eb = c .before .eight2 .ensures in
+    sym (same-ne (λ e. c .if2 .taken (ea .0 ∙ (ap (λ (s : List ℕ). le 8 s (l .i)) e ∙ sym (eb .0)))))
 
--- src/lib.rt:243:9
+-- src/lib.rt:241:9
 add-i : tie.Need-add-i Inv-loop μ-loop
-add-i c = let e = c .before .agree .ensures in omega arith
+add-i c = omega arith
 
--- src/lib.rt:238:5
+-- src/lib.rt:237:5
 loop-less : tie.Need-loop-less Inv-loop μ-loop
-loop-less c = let e = c .before .agree .ensures in omega arith
+loop-less c = omega arith
 
--- src/lib.rt:238:5
+-- src/lib.rt:237:5
 loop-again : tie.Need-loop-again Inv-loop μ-loop
 loop-again c =
-    let a = c .before .before .before .before .before .before .before .args in
-    let l = c .before .before .before .loop in
-    let e = c .before .agree .ensures in
-    (e .1, agree-on (a .a .now) (a .b .now) (l .i) (c .before .agree .result) (l .inv .1) (e .2))
+    let a = c .before .before .before .before .before .before .before .before .args .a .now in
+    let b = c .before .before .before .before .before .before .before .before .args .b .now in
+    let l = c .before .before .before .before .loop in
+    let ea = c .before .before .eight .ensures in
+    let eb = c .before .eight2 .ensures in
+    let next = le-same 8 a b (l .i) (ea .1) (eb .1) (omega arith) (omega arith) (sym (ea .0) ∙ (c .if2 .left ∙ eb .0)) in
+    (omega arith, same-step a b (l .i) 8 next ∙ l .inv .1)
 
--- src/lib.rt:231:1
+-- src/lib.rt:243:5
+equal-rest-requires : tie.Need-equal-rest-requires Inv-loop μ-loop
+equal-rest-requires c κs = c .before .before .if1 .left
+
+-- src/lib.rt:230:1
 returns-3 : tie.Need-returns-3 Inv-loop μ-loop
-returns-3 c =
-    let a = c .before .before .before .before .before .args in
-    let l = c .before .loop in
-    sym (same-eq (ext-getD 0 (a .a .now) (a .b .now) (c .before .before .if1 .left) (λ m h. l .inv .1 m (omega arith))))
+returns-3 c = c .equal-rest .ensures ∙ c .before .before .loop .inv .1
 
 pub equal-spec : {M : Type 1} → statement M
 equal-spec =
@@ -64,9 +84,12 @@ equal-spec =
     μ-loop
     returns
     loop-holds
-    agree-requires
+    sub-loop
+    eight-requires
+    eight-requires-2
     returns-2
     add-i
     loop-less
     loop-again
+    equal-rest-requires
     returns-3)

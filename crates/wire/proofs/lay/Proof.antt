@@ -1,62 +1,76 @@
+-- What is still to be stored, stored from here, is always all of the run stored at once.
+-- Assumes nothing.
 use native.Mathlib.Omega.{arith}
-use mathlib.Core.Path.{_≡_, refl, sym, _∙_, ap}
+use native.Mathlib.Nat.{add-zero, add-assoc}
+use mathlib.Core.Path.{_≡_, refl, _∙_}
 use Prim.Native.Nat.{_+_, _-_, _≤_}
-use lib.ListN.{length, take, drop}
-use lib.Seq.{sets, length-sets, take-length, take-add, length-take-le}
-use Rattle.wire.specs.Sets.{sets-next}
+use lib.ListN.{length, drop, length-drop}
+use lib.Seq.{sets, length-sets, drop-drop}
+use Rattle.wire.specs.Sets.{sets-rest}
+use Rattle.wire.proofs.Laws.{le-back}
 use Rattle.wire.proofs.lay.Statement.{statement}
 use Rattle.wire.proofs.lay.Tie as tie
 use Rattle.wire.proofs.lay.Reads as reads
 use Rattle.wire.proofs.lay.Lts as lts
-use Rattle.wire.proofs.carry.Reads as carry-reads
+use Rattle.wire.proofs.eight.Reads as eight-reads
+use Rattle.wire.proofs.lay_rest.Reads as lay-rest-reads
+use Rattle.wire.proofs.put_eight.Reads as put-eight-reads
 
 abbrev Inv-loop : tie.InvT-loop
-Inv-loop d₀ at s i₀ d i = (i ≤ length s) × (d ≡ sets d₀ at (take i s))
+Inv-loop d₀ at s i₀ d i = (i ≤ length s) × (length d ≡ length d₀) × (sets d (at + i) (drop i s) ≡ sets d₀ at s)
 
 abbrev μ-loop : tie.MeasureT-loop
 μ-loop d₀ at s i₀ d i = length s - i
 
--- src/lib.rt:182:5
+-- src/lib.rt:181:5
 loop-holds : tie.Need-loop-holds Inv-loop μ-loop
-loop-holds c = (omega arith, refl)
+loop-holds c = (omega arith, refl, rw add-zero)
 
--- src/lib.rt:183:23
-add-carry : tie.Need-add-carry Inv-loop μ-loop
-add-carry c = omega arith
+-- src/lib.rt:181:16
+sub-loop : tie.Need-sub-loop Inv-loop μ-loop
+sub-loop c = omega arith
 
--- src/lib.rt:183:14
-carry-requires : tie.Need-carry-requires Inv-loop μ-loop
-carry-requires c κs =
-    let l = c .before .before .loop in
-    (omega arith, rw (l .inv .1, length-sets) (omega arith))
+-- src/lib.rt:182:22
+add-put-eight : tie.Need-add-put-eight Inv-loop μ-loop
+add-put-eight c = omega arith
+
+-- src/lib.rt:182:30
+eight-requires : tie.Need-eight-requires Inv-loop μ-loop
+eight-requires c κs = omega arith
+
+-- src/lib.rt:182:9
+put-eight-requires : tie.Need-put-eight-requires Inv-loop μ-loop
+put-eight-requires c κs = omega arith
 
 -- src/lib.rt:183:9
 add-i : tie.Need-add-i Inv-loop μ-loop
-add-i c = let e = c .before .before .carry .ensures in omega arith
+add-i c = omega arith
 
--- src/lib.rt:182:5
+-- src/lib.rt:181:5
 loop-less : tie.Need-loop-less Inv-loop μ-loop
-loop-less c = let e = c .before .before .carry .ensures in omega arith
+loop-less c = omega arith
 
--- src/lib.rt:182:5
+-- src/lib.rt:181:5
 loop-again : tie.Need-loop-again Inv-loop μ-loop
 loop-again c =
-    let a = c .before .before .before .before .before .before .before .before .args in
-    let l = c .before .before .before .before .before .loop in
-    let e = c .before .before .carry .ensures in
-    (e .1, rw (e .2, l .inv .1, sets-next (a .d .now) (a .at) (take (l .i) (a .s .now)) (take (c .before .before .carry .result) (drop (l .i) (a .s .now))) (a .at + l .i) (rw (length-take-le (l .i) (a .s .now) (l .inv .0))), take-add (l .i) (c .before .before .carry .result) (a .s .now)))
+    let a = c .before .before .before .before .before .before .before .before .before .args in
+    let s = a .s .now in
+    let l = c .before .before .before .before .before .before .loop in
+    let e = c .before .before .before .eight .ensures in
+    let p = c .before .before .put-eight .ensures in
+    (omega arith, rw (p, length-sets) (l .inv .1), rw (p, e .0, le-back 8 s (l .i) (e .1) (omega arith), ← drop-drop 8 (l .i) s, ← add-assoc (a .at) (l .i) 8) (sets-rest (l .d) (a .at + l .i) (drop (l .i) s) 8 (rw length-drop (omega arith)) ∙ l .inv .2))
 
--- src/lib.rt:177:1
+-- src/lib.rt:185:5
+lay-rest-requires : tie.Need-lay-rest-requires Inv-loop μ-loop
+lay-rest-requires c κs = omega arith
+
+-- src/lib.rt:176:1
 same-length : tie.Need-same-length Inv-loop μ-loop
-same-length c = rw (c .before .loop .inv .1, length-sets)
+same-length c = rw (c .before .before .lay-rest .ensures, length-sets) (c .before .before .before .before .before .loop .inv .1)
 
--- src/lib.rt:177:1
+-- src/lib.rt:176:1
 returns : tie.Need-returns Inv-loop μ-loop
-returns c =
-    let a = c .before .before .before .before .args in
-    let l = c .before .loop in
-    let all : l .i ≡ length (a .s .now) = omega arith in
-    rw (l .inv .1, all, take-length)
+returns c = c .before .before .lay-rest .ensures ∙ c .before .before .before .before .before .loop .inv .2
 
 pub lay-spec : {M : Type 1} → statement M
 lay-spec =
@@ -65,10 +79,13 @@ lay-spec =
     Inv-loop
     μ-loop
     loop-holds
-    add-carry
-    carry-requires
+    sub-loop
+    add-put-eight
+    eight-requires
+    put-eight-requires
     add-i
     loop-less
     loop-again
+    lay-rest-requires
     same-length
     returns)
