@@ -16,9 +16,9 @@ use std::hint::black_box;
 use std::process::ExitCode;
 use std::time::{Duration, Instant};
 
-/// Batches of calls; the fastest one counts.
-const BATCHES: usize = 7;
-const BATCH: Duration = Duration::from_millis(50);
+/// Batches of calls; the fastest one counts. They are short, so that some are not interrupted.
+const BATCHES: Duration = Duration::from_millis(500);
+const BATCH: Duration = Duration::from_millis(1);
 
 fn main() -> ExitCode {
     let words: Vec<String> = env::args().skip(1).collect();
@@ -123,9 +123,9 @@ impl Sides {
     }
 }
 
-/// A call's time, by the fastest of some batches.
+/// A call's time, by the fastest of the batches.
 fn nanoseconds(mut call: impl FnMut()) -> f64 {
-    let batch = |call: &mut dyn FnMut()| {
+    let mut batch = || {
         let (start, mut calls) = (Instant::now(), 0u32);
         while start.elapsed() < BATCH {
             call();
@@ -133,5 +133,9 @@ fn nanoseconds(mut call: impl FnMut()) -> f64 {
         }
         start.elapsed().as_nanos() as f64 / f64::from(calls)
     };
-    (0..BATCHES).map(|_| batch(&mut call)).fold(f64::INFINITY, f64::min)
+    let (start, mut fastest) = (Instant::now(), batch());
+    while start.elapsed() < BATCHES {
+        fastest = fastest.min(batch());
+    }
+    fastest
 }
