@@ -1,12 +1,12 @@
--- A row is written field by field, and each field begins where the one before it ends.
+-- A row is written field by field: each field begins where the one before it ends, and the last one ends the row.
 -- Assumes nothing.
-use mathlib.Core.Path.{_≡_, refl}
+use mathlib.Core.Path.{_≡_, refl, sym, _∙_}
 use mathlib.Core.List.{List, [], _∷_, _++_}
-use Prim.Native.Nat.{ℕ, _+_, _*_}
+use Prim.Native.Nat.{ℕ, _*_}
 use native.Mathlib.Omega.{arith}
 use lib.ListN.{length, set, length-append}
 use lib.Seq.{sets}
-use Rattle.wire.specs.Sets.{sets-next}
+use Rattle.wire.specs.Sets.{sets-next, sets-whole}
 use Rattle.wire.specs.Le.{leBytes}
 use Rattle.wire.proofs.Laws.{leBytes-length}
 use Rattle.ids.specs.Keys.{Key, zeroKey, keyOf}
@@ -17,24 +17,26 @@ use Rattle.natives.specs.Rows.{fieldsOf, rowsOf}
 use Rattle.natives.specs.declared.Native.{Native}
 use Rattle.natives.specs.declared.Native.the-variants.{Nothing, Fund, Sync, Close}
 
-pub fields : (l : List ℕ) (at i kind : ℕ) (h o a : Key) (n : ℕ) → length h ≡ 32 → length o ≡ 32 → length a ≡ 32 → sets (sets (sets (sets (set (sets l at (leBytes 4 i)) (at + 4) kind) (at + 5) h) (at + 37) o) (at + 69) a) (at + 101) (leBytes 8 n) ≡ sets l at (fieldsOf i kind h o a n)
-unfolding fieldsOf
-fields l at i kind h o a n hh ho ha =
-    let b = leBytes 4 i in
-    let hb : length (leBytes 4 i) ≡ 4 = leBytes-length 4 i in
-    let told : set (sets l at b) (at + 4) kind ≡ sets l at (b ++ (kind ∷ [])) = sets-next l at b (kind ∷ []) (at + 4) (rw hb) in
-    rw (
-      told,
-      sets-next l at (b ++ (kind ∷ [])) h (at + 5) (simp length-append (omega arith)),
-      sets-next l at (b ++ (kind ∷ []) ++ h) o (at + 37) (simp length-append (omega arith)),
-      sets-next l at (b ++ (kind ∷ []) ++ h ++ o) a (at + 69) (simp length-append (omega arith)),
-    )
-    (sets-next l at (b ++ (kind ∷ []) ++ h ++ o ++ a) (leBytes 8 n) (at + 101) (simp length-append (omega arith)))
-
 -- a row has 109 bytes
 pub row-length : (i kind : ℕ) (h o a : Key) (n : ℕ) → length h ≡ 32 → length o ≡ 32 → length a ≡ 32 → length (fieldsOf i kind h o a n) ≡ 109
 unfolding fieldsOf
 row-length i kind h o a n hh ho ha = simp (length-append, leBytes-length, hh, ho, ha)
+
+-- the fields fill it
+pub fields : (l : List ℕ) (i kind : ℕ) (h o a : Key) (n : ℕ) → length l ≡ 109 → length h ≡ 32 → length o ≡ 32 → length a ≡ 32 → sets (sets (sets (sets (set (sets l 0 (leBytes 4 i)) 4 kind) 5 h) 37 o) 69 a) 101 (leBytes 8 n) ≡ fieldsOf i kind h o a n
+unfolding fieldsOf
+fields l i kind h o a n hl hh ho ha =
+    let b = leBytes 4 i in
+    let hb : length (leBytes 4 i) ≡ 4 = leBytes-length 4 i in
+    let told : set (sets l 0 b) 4 kind ≡ sets l 0 (b ++ (kind ∷ [])) = sets-next l 0 b (kind ∷ []) 4 (omega arith) in
+    rw (
+      told,
+      sets-next l 0 (b ++ (kind ∷ [])) h 5 (simp length-append (omega arith)),
+      sets-next l 0 (b ++ (kind ∷ []) ++ h) o 37 (simp length-append (omega arith)),
+      sets-next l 0 (b ++ (kind ∷ []) ++ h ++ o) a 69 (simp length-append (omega arith)),
+      sets-next l 0 (b ++ (kind ∷ []) ++ h ++ o ++ a) (leBytes 8 n) 101 (simp length-append (omega arith)),
+    )
+    (sets-whole l (fieldsOf i kind h o a n) (row-length i kind h o a n hh ho ha ∙ sym hl))
 
 zero-length : length zeroKey ≡ 32
 unfolding zeroKey

@@ -4,7 +4,6 @@
 ghost use mathlib.Core.Path.{_≡_};
 ghost use mathlib.Core.Bool.{_&&_, _||_};
 ghost use mathlib.Core.List.{[], _∷_};
-ghost use Prim.Native.Nat.{_<_};
 ghost use lib.Dec.{leb, ltb};
 ghost use lib.ListN.{length};
 ghost use lib.Seq.{sets};
@@ -153,7 +152,7 @@ pub fn action(id: Id, keys: &[u8], accounts: &[u8], data: &[u8], mint: &[u8]) ->
     asked
 }
 
-// The fields of a row, one after the other.
+// The fields of a row, one after the other. The row is built in an array of its own, where every field is known to fit, and put in one piece.
 fn put_fields(
     out: &mut [u8],
     at: usize,
@@ -164,24 +163,23 @@ fn put_fields(
     authority: &[u8],
     lamports: u64,
 )
-    requires { ⌜ (at < length (now out)) × (length (now held) ≡ 32) × (length (now other) ≡ 32) × (length (now authority) ≡ 32) ⌝ }
+    requires { ⌜ (length (now held) ≡ 32) × (length (now other) ≡ 32) × (length (now authority) ≡ 32) ⌝ }
     ensures { λ _. ⌜ now (out .exit) ≡ sets (now (out .entry)) at (fieldsOf invocation kind (now (held .entry)) (now (other .entry)) (now (authority .entry)) lamports) ⌝ }
 {
-    wire::put_u32(out, at, invocation);
-    wire::put_byte(out, at + 4, kind);
-    wire::put(out, at + 5, held);
-    wire::put(out, at + 37, other);
-    wire::put(out, at + 69, authority);
-    wire::put_u64(out, at + 101, lamports);
+    let mut row = [0u8; 109];
+    wire::put_u32(&mut row, 0, invocation);
+    wire::put_byte(&mut row, 4, kind);
+    wire::put(&mut row, 5, held);
+    wire::put(&mut row, 37, other);
+    wire::put(&mut row, 69, authority);
+    wire::put_u64(&mut row, 101, lamports);
+    wire::put(out, at, &row);
 }
 
 // Writes the row of an action, if there is one.
 pub fn put_row(out: &mut [u8], at: usize, invocation: u32, keys: &[u8], native: Native)
     ensures { λ _. ⌜ now (out .exit) ≡ sets (now (out .entry)) at (rowsOf invocation (valueOf (keyOf (now (keys .entry))) native)) ⌝ }
 {
-    if out.len() <= at {
-        return;
-    }
     let blank = [0u8; 32];
     let zero = [0u8; 32];
     match native {

@@ -1,14 +1,14 @@
--- A row is written field by field, and each field begins where the one before it ends.
+-- A row is written field by field: each field begins where the one before it ends, and the last one ends the row.
 -- Assumes nothing.
 use mathlib.Core.Path.{_≡_, refl, ap}
 use mathlib.Core.List.{List, _∷_, _++_}
 use mathlib.Core.Option.{Option, none, some}
-use Prim.Native.Nat.{ℕ, suc, _+_, _*_}
+use Prim.Native.Nat.{ℕ, suc, _*_}
 use native.Mathlib.Omega.{arith}
 use lib.ListN.{length, set, length-append}
 use lib.Seq.{sets}
 use Rattle.wire.proofs.Laws.{leBytes-length}
-use Rattle.wire.specs.Sets.{sets-next}
+use Rattle.wire.specs.Sets.{sets-next, sets-whole}
 use Rattle.ids.specs.Keys.{Key, keyOf}
 use Rattle.ids.specs.Mints.{mintOf, mintField}
 use Rattle.ids.proofs.Keys.{key-length, mint-length}
@@ -18,19 +18,18 @@ use Rattle.token.specs.Moved.{valueOf}
 use Rattle.token.specs.declared.Moved.{Moved}
 use Rattle.token.specs.declared.Moved.the-variants.{Nothing, FeeUnknown, FeeKnown}
 
--- the fields of a row of the table of transfers
-pub fields : (l : List ℕ) (at : ℕ) (i p s d m a f : List ℕ) (told : ℕ) → length i ≡ 4 → length p ≡ 32 → length s ≡ 32 → length d ≡ 32 → length m ≡ 33 → length a ≡ 8 → sets (set (sets (sets (sets (sets (sets (sets l at i) (at + 4) p) (at + 36) s) (at + 68) d) (at + 100) m) (at + 133) a) (at + 141) told) (at + 142) f ≡ sets l at (i ++ p ++ s ++ d ++ m ++ a ++ (told ∷ f))
-fields l at i p s d m a f told hi hp hs hd hm ha =
-    let past : at + 142 ≡ suc (at + 141) = omega arith in
+-- the fields of a row of the table of transfers fill it
+pub fields : (l i p s d m a f : List ℕ) (told : ℕ) → length l ≡ 150 → length i ≡ 4 → length p ≡ 32 → length s ≡ 32 → length d ≡ 32 → length m ≡ 33 → length a ≡ 8 → length f ≡ 8 → sets (set (sets (sets (sets (sets (sets (sets l 0 i) 4 p) 36 s) 68 d) 100 m) 133 a) 141 told) 142 f ≡ (i ++ p ++ s ++ d ++ m ++ a ++ (told ∷ f))
+fields l i p s d m a f told hl hi hp hs hd hm ha hf =
     rw (
-      past,
-      sets-next l at i p (at + 4) (rw hi),
-      sets-next l at (i ++ p) s (at + 36) (simp length-append (omega arith)),
-      sets-next l at (i ++ p ++ s) d (at + 68) (simp length-append (omega arith)),
-      sets-next l at (i ++ p ++ s ++ d) m (at + 100) (simp length-append (omega arith)),
-      sets-next l at (i ++ p ++ s ++ d ++ m) a (at + 133) (simp length-append (omega arith)),
+      sets-next l 0 i p 4 (omega arith),
+      sets-next l 0 (i ++ p) s 36 (simp length-append (omega arith)),
+      sets-next l 0 (i ++ p ++ s) d 68 (simp length-append (omega arith)),
+      sets-next l 0 (i ++ p ++ s ++ d) m 100 (simp length-append (omega arith)),
+      sets-next l 0 (i ++ p ++ s ++ d ++ m) a 133 (simp length-append (omega arith)),
+      sets-next l 0 (i ++ p ++ s ++ d ++ m ++ a) (told ∷ f) 141 (simp length-append (omega arith)),
     )
-    (sets-next l at (i ++ p ++ s ++ d ++ m ++ a) (told ∷ f) (at + 141) (simp length-append (omega arith)))
+    (sets-whole l (i ++ p ++ s ++ d ++ m ++ a ++ (told ∷ f)) (simp length-append (omega arith)))
 
 fee-length : (f : Option ℕ) → length (feeField f) ≡ 9
 fee-length none = refl
