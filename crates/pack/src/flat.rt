@@ -91,13 +91,13 @@ fn link(s: &[u8], place: &[u32; 1024], n: usize, next: &mut [u32; 1024], first: 
 
 // A height as the arrays hold it.
 fn height_code(s: &[u8], at: usize) -> u64
-    requires { ⌜ at ≤ length (now s) ⌝ }
+    requires { ⌜ at + 5 ≤ length (now s) ⌝ }
     ensures { λ r. ⌜ r ≡ raised (heightAt (now (s .entry)) at) ⌝ }
 {
-    if wire::byte(s, at) == 0 {
+    if super::at(s, at) == 0 {
         return 0;
     }
-    wire::u32_at(s, at + 1) as u64 + 1
+    super::four(s, at + 1) as u64 + 1
 }
 
 // The instructions of the group at g, which names outer i, from place n on.
