@@ -14,6 +14,7 @@ ghost use Rattle.pack.specs.Items.{outersAt, outersWhole, heightAt, inne
 ghost use Rattle.pack.specs.Flatten.{numbered, inside};
 ghost use Rattle.pack.specs.Verdict.{verdict, numberOf};
 ghost use Rattle.pack.specs.Layout.{placedAt, keeps as keepsOf, keptAt, firstFrom, nextOf, raised, Chained, Wrote, spreadOf, layout, Flattened};
+use super::Verdict;
 
 // Where the instructions of section 2 start.
 fn outer_places(s: &[u8], place: &mut [u32; 1024]) -> usize
@@ -91,13 +92,13 @@ fn link(s: &[u8], place: &[u32; 1024], n: usize, next: &mut [u32; 1024], first: 
 
 // A height as the arrays hold it.
 fn height_code(s: &[u8], at: usize) -> u64
-    requires { ⌜ at ≤ length (now s) ⌝ }
+    requires { ⌜ at + 5 ≤ length (now s) ⌝ }
     ensures { λ r. ⌜ r ≡ raised (heightAt (now (s .entry)) at) ⌝ }
 {
-    if wire::byte(s, at) == 0 {
+    if super::at(s, at) == 0 {
         return 0;
     }
-    wire::u32_at(s, at + 1) as u64 + 1
+    super::four(s, at + 1) as u64 + 1
 }
 
 // The instructions of the group at g, which names outer i, from place n on.
@@ -251,22 +252,30 @@ fn fill(
     )
 }
 
-// The invocations of a pack in execution order, the arrays zero behind them; none of a pack that is refused. Answers how many.
+// What flattening finds: the verdict, and how many invocations there are (none where the pack is refused).
+pub struct Flat {
+    pub verdict: Verdict,
+    pub count: usize,
+}
+
+// The invocations of a pack in execution order, the arrays zero behind them; none of a pack that is refused. It judges the pack, so a caller need not.
 pub fn flatten(
     pack: &[u8],
     at: &mut [u32; 1024],
     outer: &mut [u32; 1024],
     inner: &mut [u32; 1024],
     height: &mut [u64; 1024],
-) -> usize
-    ensures { λ r. ⌜ Flattened (now (pack .entry)) r (now (at .exit)) (now (outer .exit)) (now (inner .exit)) (now (height .exit)) ⌝ }
+) -> Flat
+    ensures { λ r. ⌜ (r .verdict ≡ verdict (now (pack .entry))) × Flattened (now (pack .entry)) (r .count) (now (at .exit)) (now (outer .exit)) (now (inner .exit)) (now (height .exit)) ⌝ }
 {
     *at = [0u32; 1024];
     *outer = [0u32; 1024];
     *inner = [0u32; 1024];
     *height = [0u64; 1024];
-    if super::number(super::judge(pack)) != 0 {
-        return 0;
+    let verdict = super::judge(pack);
+    if super::number(verdict) != 0 {
+        return Flat { verdict, count: 0 };
     }
-    fill(pack, at, outer, inner, height)
+    let count = fill(pack, at, outer, inner, height);
+    Flat { verdict, count }
 }

@@ -1,10 +1,11 @@
 // The pack: its trailer, its five sections, the refusals that its bytes can meet, and the invocations that they flatten to.
 //
-// Total over all bytes. `judge` answers which of the refusals 2 to 6 a pack meets, `section` shows a part of the pack, `flatten` says where each invocation's
-// instruction stands and where it was run, and `program`, `accounts` and `data` read an instruction back from its offset.
+// Total over all bytes. `judge` answers which of the refusals 2 to 6 a pack meets, `flatten` answers that too and says where each invocation's instruction stands
+// and where it was run, `section` shows a part of the pack, and `program`, `accounts` and `data` read an instruction back from its offset.
 ghost use mathlib.Core.Path.{_≡_};
-ghost use Prim.Native.Nat.{_+_, _≤_};
-ghost use lib.ListN.{length};
+ghost use Prim.Native.Nat.{_+_, _<_, _≤_};
+ghost use lib.ListN.{length, getD};
+ghost use Rattle.wire.specs.Le.{le};
 ghost use Rattle.pack.specs.Items.{itemEnd};
 ghost use Rattle.pack.specs.Verdict.{verdict, numberOf, placeOf};
 
@@ -13,6 +14,7 @@ pub mod item;
 pub mod trailer;
 pub mod whole;
 
+pub use flat::Flat;
 pub use flat::flatten;
 pub use item::accounts;
 pub use item::data;
@@ -96,10 +98,34 @@ pub fn judge(pack: &[u8]) -> Verdict
     Verdict::Good
 }
 
-// Where the instruction at an offset of a section ends.
+// A byte that is there: a walk over a section tests once that a header is there, and then reads its fields without further tests.
+fn at(s: &[u8], i: usize) -> u8
+    requires { ⌜ i < length (now s) ⌝ }
+    ensures { λ r. ⌜ r ≡ getD (now (s .entry)) i 0 ⌝ }
+{
+    s[i]
+}
+
+// Two bytes that are there, as a number.
+fn two(s: &[u8], i: usize) -> u16
+    requires { ⌜ i + 2 ≤ length (now s) ⌝ }
+    ensures { λ r. ⌜ r ≡ le 2 (now (s .entry)) i ⌝ }
+{
+    at(s, i) as u16 + at(s, i + 1) as u16 * 256
+}
+
+// Four bytes that are there, as a number.
+fn four(s: &[u8], i: usize) -> u32
+    requires { ⌜ i + 4 ≤ length (now s) ⌝ }
+    ensures { λ r. ⌜ r ≡ le 4 (now (s .entry)) i ⌝ }
+{
+    two(s, i) as u32 + two(s, i + 2) as u32 * 65536
+}
+
+// Where the instruction at an offset of a section ends; its header is there.
 fn item_end(s: &[u8], at: usize) -> usize
-    requires { ⌜ at ≤ length (now s) + 5 ⌝ }
+    requires { ⌜ at + 8 ≤ length (now s) ⌝ }
     ensures { λ r. ⌜ r ≡ itemEnd (now (s .entry)) at ⌝ }
 {
-    at + 8 + wire::u16_at(s, at + 4) as usize + wire::u16_at(s, at + 6) as usize
+    at + 8 + two(s, at + 4) as usize + two(s, at + 6) as usize
 }

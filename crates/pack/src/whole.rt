@@ -1,7 +1,7 @@
 // Whether rows, instructions and groups fill their section, and how many there are.
 ghost use mathlib.Core.Path.{_≡_};
 ghost use mathlib.Core.Bool.{cond};
-ghost use Prim.Native.Nat.{_≤_};
+ghost use Prim.Native.Nat.{_+_, _≤_};
 ghost use lib.Dec.{ltb};
 ghost use lib.ListN.{length};
 ghost use Rattle.wire.specs.Le.{le};
@@ -48,6 +48,9 @@ pub fn outers(s: &[u8]) -> Count
     let mut at = 0;
     let mut n = 0;
     while at < s.len() {
+        if s.len() - at < 8 {
+            return Count::Broken;
+        }
         let end = super::item_end(s, at);
         if s.len() < end {
             return Count::Broken;
@@ -60,12 +63,12 @@ pub fn outers(s: &[u8]) -> Count
 
 // Flag 0 and height 0, or flag 1.
 fn height_good(s: &[u8], at: usize) -> bool
-    requires { ⌜ at ≤ length (now s) ⌝ }
+    requires { ⌜ at + 5 ≤ length (now s) ⌝ }
     ensures { λ r. ⌜ r ≡ heightGood (now (s .entry)) at ⌝ }
 {
-    let flag = wire::byte(s, at);
+    let flag = super::at(s, at);
     if flag == 0 {
-        return wire::u32_at(s, at + 1) == 0;
+        return super::four(s, at + 1) == 0;
     }
     flag == 1
 }
@@ -78,6 +81,9 @@ fn inners(s: &[u8], n: usize, at: usize) -> Walk
     let mut to = at;
     let mut j = 0;
     while j < n {
+        if s.len() - to < 13 {
+            return Walk::Cut;
+        }
         let end = super::item_end(s, to + 5);
         if s.len() < end {
             return Walk::Cut;

@@ -8,11 +8,11 @@ use Rattle.pack.proofs.item_end.Tie as tie
 add-result : tie.Need-add-result
 add-result c = search needs
 
-add-u16-at : tie.Need-add-u16-at
-add-u16-at c = search needs
+add-two : tie.Need-add-two
+add-two c = search needs
 
-u16-at-requires : tie.Need-u16-at-requires
-u16-at-requires c κs = search needs
+two-requires : tie.Need-two-requires
+two-requires c κs = search needs
 
 cast-result : tie.Need-cast-result
 cast-result c = search needs
@@ -20,11 +20,11 @@ cast-result c = search needs
 add-result-2 : tie.Need-add-result-2
 add-result-2 c = search needs
 
-add-u16-at-2 : tie.Need-add-u16-at-2
-add-u16-at-2 c = search needs
+add-two-2 : tie.Need-add-two-2
+add-two-2 c = search needs
 
-u16-at-requires-2 : tie.Need-u16-at-requires-2
-u16-at-requires-2 c κs = search needs
+two-requires-2 : tie.Need-two-requires-2
+two-requires-2 c κs = search needs
 
 cast-result-2 : tie.Need-cast-result-2
 cast-result-2 c = search needs
@@ -34,19 +34,19 @@ add-result-3 c = search needs
 
 returns : tie.Need-returns
 unfolding itemEnd
-returns c = rw (c .u16-at2 .ensures, c .before .u16-at .ensures)
+returns c = rw (c .two2 .ensures, c .before .two .ensures)
 
 pub item-end-spec : {M : Type 1} → statement M
 item-end-spec =
     tie.close
     (tie.spec
     add-result
-    add-u16-at
-    u16-at-requires
+    add-two
+    two-requires
     cast-result
     add-result-2
-    add-u16-at-2
-    u16-at-requires-2
+    add-two-2
+    two-requires-2
     cast-result-2
     add-result-3
     returns)

@@ -16,8 +16,9 @@ number-requires c κs = search needs
 returns : tie.Need-returns
 returns c =
     let p = c .before .before .before .before .before .before .before .before .args .pack .now in
-    let e = c .before .number .ensures ∙ ap numberOf (c .before .before .judge .ensures) in
-    rw (laid-none p (λ z. c .if1 .taken (e ∙ z))) (record { count = refl; ats = refl; outers = refl; inners = refl; heights = refl })
+    let v = c .before .before .judge .ensures in
+    let e = c .before .number .ensures ∙ ap numberOf v in
+    (v, rw (laid-none p (λ z. c .if1 .taken (e ∙ z))) (record { count = refl; ats = refl; outers = refl; inners = refl; heights = refl }))
 
 fill-requires : tie.Need-fill-requires
 fill-requires c κs =

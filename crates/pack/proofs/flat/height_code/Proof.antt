@@ -10,20 +10,20 @@ use borrow.Author.Needs.{needs}
 use Rattle.pack.proofs.flat.height_code.Statement.{statement}
 use Rattle.pack.proofs.flat.height_code.Tie as tie
 
-byte-requires : tie.Need-byte-requires
-byte-requires c κs = search needs
+at-requires : tie.Need-at-requires
+at-requires c κs = search needs
 
 returns : tie.Need-returns
 unfolding raised heightAt
 returns c =
     let a = c .before .before .before .args in
-    rw (eq-eqb (getD (a .s .now) (a .at) 0) 0 (sym (c .before .byte .ensures) ∙ c .if1 .taken))
+    rw (eq-eqb (getD (a .s .now) (a .at) 0) 0 (sym (c .before .at .ensures) ∙ c .if1 .taken))
 
-add-u32-at : tie.Need-add-u32-at
-add-u32-at c = search needs
+add-four : tie.Need-add-four
+add-four c = search needs
 
-u32-at-requires : tie.Need-u32-at-requires
-u32-at-requires c κs = search needs
+four-requires : tie.Need-four-requires
+four-requires c κs = search needs
 
 cast-result : tie.Need-cast-result
 cast-result c = search needs
@@ -35,9 +35,9 @@ returns-2 : tie.Need-returns-2
 unfolding raised heightAt
 returns-2 c =
     let a = c .before .before .before .before .args in
-    rw (c .u32-at .ensures, ne-eqb (getD (a .s .now) (a .at) 0) 0 (λ e. c .before .if1 .left (c .before .before .byte .ensures ∙ e))) (add-one _)
+    rw (c .four .ensures, ne-eqb (getD (a .s .now) (a .at) 0) 0 (λ e. c .before .if1 .left (c .before .before .at .ensures ∙ e))) (add-one _)
 
 pub height-code-spec : {M : Type 1} → statement M
 height-code-spec =
     tie.close
-    (tie.spec byte-requires returns add-u32-at u32-at-requires cast-result add-result returns-2)
+    (tie.spec at-requires returns add-four four-requires cast-result add-result returns-2)

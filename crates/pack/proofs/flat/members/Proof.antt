@@ -29,12 +29,12 @@ Inv-loop s base g i n at₀ outer₀ inner₀ height₀ count to₀ j₀ at oute
 abbrev μ-loop : tie.MeasureT-loop
 μ-loop s base g i n at₀ outer₀ inner₀ height₀ count to₀ j₀ at outer inner height to j = count - j
 
--- the next instruction starts in the section
-reach : (c : tie.At-loop Inv-loop μ-loop) → c .loop .to ≤ length (c .before .before .before .args .s .now)
+-- the fixed part of the next instruction lies in the section
+reach : (c : tie.In-loop Inv-loop μ-loop) → c .before .loop .to + 13 ≤ length (c .before .before .before .before .args .s .now)
 reach c =
-    let l = c .loop in
-    let q = c .before .before .before .pre in
-    let g = inners-grow (c .before .before .before .args .s .now) (c .before .u16-at .result - l .j) (l .to) in
+    let l = c .before .loop in
+    let q = c .before .before .before .before .pre in
+    let g = inners-grow (c .before .before .before .before .args .s .now) (c .before .before .u16-at .result - l .j) (l .to) in
     omega (arith, l .inv .1, q .1)
 
 add-u16-at : tie.Need-add-u16-at Inv-loop μ-loop
@@ -57,16 +57,16 @@ add-k : tie.Need-add-k Inv-loop μ-loop
 add-k c = omega arith
 
 height-code-requires : tie.Need-height-code-requires Inv-loop μ-loop
-height-code-requires c κs = reach (c .before)
+height-code-requires c κs = omega (arith, reach c)
 
 add-header : tie.Need-add-header Inv-loop μ-loop
-add-header c = omega (arith, reach (c .before .before))
+add-header c = omega (arith, reach (c .before))
 
 add-at : tie.Need-add-at Inv-loop μ-loop
-add-at c = omega (arith, reach (c .before .before))
+add-at c = omega (arith, reach (c .before))
 
 cast-at : tie.Need-cast-at Inv-loop μ-loop
-cast-at c = omega (arith, reach (c .before .before))
+cast-at c = omega (arith, reach (c .before))
 
 mul-at : tie.Need-mul-at Inv-loop μ-loop
 mul-at c = omega arith
@@ -99,7 +99,7 @@ element-write-height : tie.Need-element-write-height Inv-loop μ-loop
 element-write-height c = omega arith
 
 item-end-requires : tie.Need-item-end-requires Inv-loop μ-loop
-item-end-requires c κs = omega (arith, reach (c .before .before))
+item-end-requires c κs = omega (arith, reach (c .before))
 
 add-j : tie.Need-add-j Inv-loop μ-loop
 add-j c = omega arith

@@ -42,7 +42,7 @@ element-write-place : tie.Need-element-write-place Inv-loop μ-loop
 element-write-place c = omega (arith, room c)
 
 item-end-requires : tie.Need-item-end-requires Inv-loop μ-loop
-item-end-requires c κs = omega arith
+item-end-requires c κs = omega (arith, next c .0, item-grows (c .before .before .before .args .s .now) (c .before .loop .at))
 
 add-n : tie.Need-add-n Inv-loop μ-loop
 add-n c = omega (arith, room (c .before))

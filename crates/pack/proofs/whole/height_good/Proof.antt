@@ -8,26 +8,26 @@ use borrow.Author.Needs.{needs}
 use Rattle.pack.proofs.whole.height_good.Statement.{statement}
 use Rattle.pack.proofs.whole.height_good.Tie as tie
 
-byte-requires : tie.Need-byte-requires
-byte-requires c κs = search needs
+at-requires : tie.Need-at-requires
+at-requires c κs = search needs
 
-add-u32-at : tie.Need-add-u32-at
-add-u32-at c = search needs
+add-four : tie.Need-add-four
+add-four c = search needs
 
-u32-at-requires : tie.Need-u32-at-requires
-u32-at-requires c κs = search needs
+four-requires : tie.Need-four-requires
+four-requires c κs = search needs
 
 returns : tie.Need-returns
 unfolding heightGood
 returns c =
     let a = c .before .before .before .before .args in
-    rw (c .u32-at .ensures, eq-eqb (getD (a .s .now) (a .at) 0) 0 (sym (c .before .before .byte .ensures) ∙ c .before .if1 .taken))
+    rw (c .four .ensures, eq-eqb (getD (a .s .now) (a .at) 0) 0 (sym (c .before .before .at .ensures) ∙ c .before .if1 .taken))
 
 returns-2 : tie.Need-returns-2
 unfolding heightGood
 returns-2 c =
     let a = c .before .before .before .args in
-    rw (c .before .byte .ensures, ne-eqb (getD (a .s .now) (a .at) 0) 0 (λ e. c .if1 .left (c .before .byte .ensures ∙ e)))
+    rw (c .before .at .ensures, ne-eqb (getD (a .s .now) (a .at) 0) 0 (λ e. c .if1 .left (c .before .at .ensures ∙ e)))
 
 pub height-good-spec : {M : Type 1} → statement M
-height-good-spec = tie.close (tie.spec byte-requires add-u32-at u32-at-requires returns returns-2)
+height-good-spec = tie.close (tie.spec at-requires add-four four-requires returns returns-2)
