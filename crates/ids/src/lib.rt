@@ -127,7 +127,7 @@ pub fn is_id(k: usize, key: &[u8]) -> bool
 }
 
 // The case of a number.
-fn of_number(n: u8) -> Id
+pub fn of_number(n: u8) -> Id
     ensures { λ r. ⌜ r ≡ ofNumber n ⌝ }
 {
     match n {

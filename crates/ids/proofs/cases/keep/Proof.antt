@@ -1,5 +1,5 @@
 use native.Mathlib.Omega.{arith}
-use Rattle.ids.proofs.Keeping.{Kept, kept-none, kept-more, kept-all, kept-rest}
+use Rattle.ids.proofs.Keeping.{Kept, kept-none, kept-more, kept-all}
 use Prim.Native.Nat.{_-_, _≤_}
 use Rattle.ids.proofs.cases.keep.Statement.{statement}
 use Rattle.ids.proofs.cases.keep.Tie as tie
@@ -27,7 +27,7 @@ returns : tie.Need-returns Inv-loop μ-loop
 returns c =
     let l = c .before .before .loop in
     let n = c .before .before .before .key-count .ensures in
-    kept-rest (c .before .before .before .before .before .before .before .args .keys .now) (l .cases) (l .i) (l .inv .1) (omega (arith, n))
+    kept-all (c .before .before .before .before .before .before .before .args .keys .now) (l .cases) (l .i) (l .inv .1) (λ j a b. omega (arith, n))
 
 -- src/cases.rt:34:20
 number-at-requires : tie.Need-number-at-requires Inv-loop μ-loop
@@ -55,7 +55,7 @@ loop-again c =
 returns-2 : tie.Need-returns-2 Inv-loop μ-loop
 returns-2 c =
     let l = c .before .loop in
-    kept-all (c .before .before .before .before .before .before .args .keys .now) (l .cases) (l .i) (l .inv .1) (omega arith)
+    kept-all (c .before .before .before .before .before .before .args .keys .now) (l .cases) (l .i) (l .inv .1) (λ j a b. absurd (omega arith))
 
 pub keep-spec : {M : Type 1} → statement M
 keep-spec =

@@ -1,5 +1,5 @@
 use native.Mathlib.Omega.{arith}
-use Rattle.ids.specs.Which.{ofNumber, which, programAt}
+use Rattle.ids.specs.Cases.{numberAt}
 use Prim.Native.Nat.{_+_, _*_, _-_}
 use mathlib.Core.Path.{_≡_}
 use borrow.Author.Tests.{lt-ltb, eq-eqb, ne-eqb}
@@ -20,7 +20,7 @@ shared-slice-read-if1 c = search needs
 
 -- src/cases.rt:17:9
 returns : tie.Need-returns
-unfolding ofNumber programAt
+unfolding numberAt
 returns c = simp (lt-ltb _ _ (c .before .before .before .before .pre .1), ne-eqb _ _ (c .if1 .taken))
 
 -- src/cases.rt:19:32
@@ -49,7 +49,7 @@ row-in-requires c κs = search needs
 
 -- src/cases.rt:11:1
 returns-2 : tie.Need-returns-2
-unfolding programAt which
+unfolding numberAt
 returns-2 c =
     let i = c .before .before .before .before .before .before .args .i in
     let n : i * 33 + 33 - (i * 33 + 1) ≡ 32 = omega arith in
