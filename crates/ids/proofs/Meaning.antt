@@ -1,23 +1,18 @@
 -- What the cases of `Id` mean: a key has the case of a row exactly when it is that row's id, and System's exactly when it is zero.
 -- Assumes nothing.
 use mathlib.Core.Path.{_≡_, refl, sym, _∙_, ap}
-use mathlib.Core.Logic.{_≢_, ⊎-elim, by-cases}
 use mathlib.Core.Bool.{true}
-use Prim.Native.Nat.{ℕ, zero, suc, _+_, _≤_, _<_}
-use native.Mathlib.Nat.{eq-or-lt-of-le}
+use Prim.Native.Nat.{ℕ, _<_}
 use native.Mathlib.Omega.{arith}
-use mathlib.Core.List.{List-discrete}
-use native.Mathlib.Decide.{ℕ-discrete}
 use borrow.Author.Tests.{eqb-true}
 use lib.Dec.{eqb}
-use Rattle.wire.specs.Same.{same, same-eq, same-ne}
 use Rattle.wire.specs.Below.{allBelow, below-at}
 use Rattle.ids.specs.Keys.{Key, zeroKey}
-use Rattle.ids.specs.Ids.{ids, idAt}
+use Rattle.ids.specs.Ids.{idAt}
 use Rattle.ids.specs.Which.{numberOf, ofNumber, rowFrom, which}
 use Rattle.ids.specs.declared.Id.{Id}
 use Rattle.ids.specs.declared.Id.the-variants.{SplToken, Token2022, WrappedSol, ComputeBudget, AssociatedToken, Memo, PumpFun, LaunchLab, PumpSwap, Clmm, Cpmm, AmmV4, Orca, Dlmm, System, Other, Unresolved}
-use Rattle.ids.proofs.Rule.{distinct, nonzero}
+use Rattle.ids.proofs.Rows.{Row, at, no-row-zero, no-row, row-view, found, found-zero}
 
 -- each case has one number
 pub of-numberOf : (i : Id) → ofNumber (numberOf i) ≡ i
@@ -48,30 +43,6 @@ all-numbers = refl
 pub numberOf-of : (n : ℕ) → n < 17 → numberOf (ofNumber n) ≡ n
 numberOf-of n h = eqb-true _ n (below-at (λ k. eqb (numberOf (ofNumber k)) k) 17 all-numbers n h)
 
--- what a search over m rows, from row k on, says of the key
-data Row (key : Key) (m k : ℕ) : ℕ → Type 0 where
-  at : {j : ℕ} → j < k + m → idAt j ≡ key → Row key m k j
-  no-row-zero : key ≡ zeroKey → Row key m k 14
-  no-row : key ≢ zeroKey → ((j : ℕ) → k ≤ j → j < k + m → idAt j ≢ key) → Row key m k 15
-
-row-view : (key : Key) (m k : ℕ) → Row key m k (rowFrom key m k)
-unfolding rowFrom
-row-view key zero k =
-    by-cases
-    (List-discrete ℕ-discrete key zeroKey)
-    (λ e. rw (same-eq e) (no-row-zero e))
-    (λ n. rw (same-ne n) (no-row n (λ j l h e. omega arith)))
-row-view key (suc m) k =
-    by-cases
-    (List-discrete ℕ-discrete (idAt k) key)
-    (λ e. rw (same-eq e) (at {j = k} (omega arith) e))
-    (λ n. rw (same-ne n) (up n (row-view key m (suc k))))
-  where
-    up : {j : ℕ} → idAt k ≢ key → Row key m (suc k) j → Row key (suc m) k j
-    up d (at {j} h e) = at {j = j} (omega arith) e
-    up d (no-row-zero e) = no-row-zero e
-    up d (no-row n f) = no-row n (λ j l h e. ⊎-elim (λ (q : k ≡ j). d (rw q e)) (λ q. f j (omega arith) (omega arith) e) (eq-or-lt-of-le l))
-
 -- the number of a key's case is what the search finds
 which-number : (key : Key) → numberOf (which key) ≡ rowFrom key 14 0
 unfolding which
@@ -93,13 +64,7 @@ case-is key k h q = go (sym (which-number key) ∙ q) (row-view key 14 0)
 
 -- and a row's id has the case of that row
 pub is-case : (key : Key) (k : ℕ) → k < 14 → idAt k ≡ key → numberOf (which key) ≡ k
-unfolding zeroKey
-is-case key k h q = which-number key ∙ go (row-view key 14 0)
-  where
-    go : {j : ℕ} → Row key 14 0 j → j ≡ k
-    go (at {j} l e) = distinct j k (omega arith) h (e ∙ sym q)
-    go (no-row-zero e) = absurd (nonzero k h (q ∙ e))
-    go (no-row n f) = absurd (f k (omega arith) (omega arith) q)
+is-case key k h q = which-number key ∙ found key k h q
 
 -- a key that has System's case is zero
 pub system-is : (key : Key) → which key ≡ System → key ≡ zeroKey
@@ -112,5 +77,5 @@ system-is key q = go (sym (which-number key) ∙ ap numberOf q) (row-view key 14
 
 -- and the zero key has it
 pub is-system : which zeroKey ≡ System
-unfolding which rowFrom ofNumber ids zeroKey same
-is-system = refl
+unfolding which ofNumber
+is-system = ap ofNumber (found-zero zeroKey refl)

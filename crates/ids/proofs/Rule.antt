@@ -1,46 +1,42 @@
--- No two ids are equal and none is zero: one test that antt computes, and the laws that carry it to each row.
+-- No two ids share their fifth byte and none has a zero there, so no two are equal and none is zero: a test that antt computes, and the laws that carry it to
+-- each row.
 -- Assumes nothing.
-use mathlib.Core.Path.{_≡_, refl}
-use mathlib.Core.Bool.{Bool, true, false, _||_, not}
+use mathlib.Core.Path.{_≡_, refl, sym, ap, _∙_}
+use mathlib.Core.Bool.{true}
 use Prim.Native.Nat.{ℕ, _<_}
 use native.Mathlib.Omega.{arith}
-use borrow.Author.Tests.{eqb-true, not-true}
+use borrow.Author.Tests.{eqb-true}
 use lib.Dec.{eqb}
-use lib.ListN.{length, replicate}
-use Rattle.wire.specs.Same.{same, same-refl}
+use lib.ListN.{length, getD}
 use Rattle.wire.specs.Below.{allBelow, below-at}
+use Rattle.ids.specs.Keys.{Key, zeroKey}
 use Rattle.ids.specs.Ids.{ids, idAt}
+use Rattle.ids.specs.Which.{rowBy}
 
-apart : ℕ → ℕ → Bool
-apart j k = eqb j k || not (same (idAt j) (idAt k))
-
--- computed: all pairs
-all-apart : allBelow (λ j. allBelow (apart j) 14) 14 ≡ true
-unfolding ids same apart
-all-apart = refl
+-- the one row that a key can be
+abbrev pub candidateOf : Key → ℕ
+candidateOf key = rowBy (getD key 4 0) 14 0
 
 -- computed: all rows
-none-zero : allBelow (λ k. not (same (idAt k) (replicate 32 0))) 14 ≡ true
-unfolding ids same
-none-zero = refl
+all-led : allBelow (λ k. eqb (candidateOf (idAt k)) k) 14 ≡ true
+unfolding ids rowBy
+all-led = refl
 
-or-not : (a b : Bool) → (a || not b) ≡ true → b ≡ true → a ≡ true
-or-not true b e h = refl
-or-not false true e h = e
-or-not false false e h = h
+-- an id leads to its own row
+pub led : (k : ℕ) → k < 14 → candidateOf (idAt k) ≡ k
+led k h = eqb-true _ k (below-at (λ i. eqb (candidateOf (idAt i)) i) 14 all-led k h)
+
+-- and the zero key to none
+pub zero-led : candidateOf zeroKey ≡ 14
+unfolding ids rowBy zeroKey
+zero-led = refl
 
 pub distinct : (j k : ℕ) → j < 14 → k < 14 → idAt j ≡ idAt k → j ≡ k
-unfolding apart
-distinct j k hj hk e =
-    eqb-true j k
-    (or-not (eqb j k) (same (idAt j) (idAt k)) (below-at (apart j) 14 (below-at (λ i. allBelow (apart i) 14) 14 all-apart j hj) k hk)
-    (rw e (same-refl (idAt k))))
+distinct j k hj hk e = sym (led j hj) ∙ (ap candidateOf e ∙ led k hk)
 
-pub nonzero : (k : ℕ) → k < 14 → idAt k ≡ replicate 32 0 → ⊥
+pub nonzero : (k : ℕ) → k < 14 → idAt k ≡ zeroKey → ⊥
 nonzero k h e =
-    let n : same (idAt k) (replicate 32 0) ≡ false = not-true _ (below-at (λ i. not (same (idAt i) (replicate 32 0))) 14 none-zero k h) in
-    let y : same (idAt k) (replicate 32 0) ≡ true = rw e (same-refl (replicate 32 0)) in
-    let z : _≡_ {A = ℕ} 0 1 = cc in
+    let z : k ≡ 14 = sym (led k h) ∙ (ap candidateOf e ∙ zero-led) in
     omega arith
 
 -- every row is whole

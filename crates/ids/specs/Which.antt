@@ -56,6 +56,11 @@ unfoldable pub rowFrom : Key → ℕ → ℕ → ℕ
 rowFrom key zero k = cond (same key zeroKey) 14 15
 rowFrom key (suc m) k = let rest = rowFrom key m (suc k) in cond (same (idAt k) key) k rest
 
+-- the first of m rows, from row k on, whose fifth byte is b; past them, 14 for a zero and 15 for any other byte
+unfoldable pub rowBy : ℕ → ℕ → ℕ → ℕ
+rowBy b zero k = cond (eqb b 0) 14 15
+rowBy b (suc m) k = let rest = rowBy b m (suc k) in cond (eqb b (getD (idAt k) 4 0)) k rest
+
 -- which program a key is
 unfoldable pub which : Key → Id
 which key = ofNumber (rowFrom key 14 0)

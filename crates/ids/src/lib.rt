@@ -1,7 +1,7 @@
 // Keys and ids: the key at an index, which program it is, and keys and mints as fields of a row.
 //
-// The fourteen ids of the original stand in one table, whose rule (no two rows equal, none zero) is computed once. A missing key is the stand-in handed in
-// beside the keys, and a program is resolved only in range with flag 1.
+// The fourteen ids of the original stand in one table, whose rule (no two rows share their fifth byte, none has a zero there) is computed once. A missing key
+// is the stand-in handed in beside the keys, and a program is resolved only in range with flag 1.
 ghost use mathlib.Core.Path.{_≡_};
 ghost use mathlib.Core.Bool.{_&&_};
 ghost use Prim.Native.Nat.{_<_};
@@ -11,7 +11,7 @@ ghost use Rattle.wire.specs.Same.{same};
 ghost use Rattle.ids.specs.Ids.{ids, idAt};
 ghost use Rattle.ids.specs.Keys.{keyAt, keyOf, keyCount};
 ghost use Rattle.ids.specs.Mints.{isMint, mintOf, mintField};
-ghost use Rattle.ids.specs.Which.{ofNumber, rowFrom, which as whichOf, programAt};
+ghost use Rattle.ids.specs.Which.{ofNumber, rowBy, rowFrom, which as whichOf, programAt};
 
 pub mod cases;
 
@@ -103,15 +103,12 @@ pub fn put_mint(out: &mut [u8], at: usize, mint: &[u8])
     }
 }
 
-// Whether `key` is the id of row k. The table is lent, since a constant array is built anew wherever it is named; the first byte tells most rows apart.
+// Whether `key` is the id of row k. The table is lent, since a constant array is built anew wherever it is named.
 fn is_row(table: &[u8], k: usize, key: &[u8]) -> bool
     requires { ⌜ (now table ≡ ids) × (k < 14) ⌝ }
     ensures { λ r. ⌜ r ≡ same (idAt k) (now (key .entry)) ⌝ }
 {
     let at = k * 32;
-    if table[at] != wire::byte(key, 0) {
-        return false;
-    }
     wire::equal(&table[at..at + 32], key)
 }
 
@@ -151,23 +148,53 @@ pub fn of_number(n: u8) -> Id
     }
 }
 
+// The one row that a key can be, by its fifth byte; 14 where that is zero, since no id has a zero there, and 15 where it is in no row.
+fn candidate(fifth: u8) -> u8
+    ensures { λ r. ⌜ r ≡ rowBy fifth 14 0 ⌝ }
+{
+    match fifth {
+        0xd7 => 0,
+        0xee => 1,
+        0xfe => 2,
+        0xe5 => 3,
+        0x4e => 4,
+        0x99 => 5,
+        0x93 => 6,
+        0x4d => 7,
+        0x82 => 8,
+        0x04 => 9,
+        0x4f => 10,
+        0x36 => 11,
+        0x8e => 12,
+        0xbc => 13,
+        0x00 => 14,
+        _ => 15,
+    }
+}
+
 // The row of a key in the table, or 14 for the zero key and 15 for any other.
 fn row_in(table: &[u8], key: &[u8]) -> u8
     requires { ⌜ now table ≡ ids ⌝ }
     ensures { λ r. ⌜ r ≡ rowFrom (now (key .entry)) 14 0 ⌝ }
 {
-    let mut k: usize = 0;
-    while k < 14 {
-        if is_row(table, k, key) {
-            return k as u8;
-        }
-        k += 1;
+    let row = candidate(wire::byte(key, 4));
+    if row == 15 {
+        return 15;
     }
-    let blank = [0u8; 32];
-    if wire::equal(key, &blank) { 14 } else { 15 }
+    if row == 14 {
+        let blank = [0u8; 32];
+        if wire::equal(key, &blank) {
+            return 14;
+        }
+        return 15;
+    }
+    if is_row(table, row as usize, key) {
+        return row;
+    }
+    15
 }
 
-// The same, with the table built once. Every goal of a function that names it carries all of it, so the loop stands in one of its own.
+// The same, with the table built once. Every goal of a function that names it carries all of it, so the search stands in one of its own.
 fn row_of(key: &[u8]) -> u8
     ensures { λ r. ⌜ r ≡ rowFrom (now (key .entry)) 14 0 ⌝ }
 {

@@ -1,95 +1,100 @@
-use Rattle.ids.proofs.Rows.{found, passed, ended}
-use Rattle.ids.specs.Which.{rowFrom}
-use Rattle.ids.specs.Keys.{zeroKey}
-use Prim.Native.Nat.{_-_, _≤_}
-use mathlib.Core.Path.{_≡_, refl, sym, _∙_}
-use borrow.Author.Needs.{needs}
+use Rattle.ids.proofs.Rule.{candidateOf}
+use Rattle.ids.proofs.Rows.{found, found-zero, missed, led-below}
+use Rattle.ids.specs.Ids.{idAt}
+use Rattle.ids.specs.Which.{rowBy}
+use Rattle.ids.specs.Keys.{Key, zeroKey}
+use Rattle.wire.specs.Same.{same-true}
+use mathlib.Core.Path.{_≡_, sym, ap, _∙_}
+use Prim.Native.Nat.{ℕ, _<_}
 use native.Mathlib.Omega.{arith}
+use borrow.Author.Needs.{needs}
 use Rattle.ids.proofs.row_in.Statement.{statement}
 use Rattle.ids.proofs.row_in.Tie as tie
 use Rattle.ids.proofs.row_in.Reads as reads
 use Rattle.ids.proofs.row_in.Lts as lts
+use Rattle.ids.proofs.candidate.Reads as candidate-reads
 use Rattle.ids.proofs.is_row.Reads as is-row-reads
+use Rattle.wire.proofs.byte.Reads as byte-reads
 use Rattle.wire.proofs.equal.Reads as equal-reads
 
-abbrev Inv-loop : tie.InvT-loop
-Inv-loop table key k₀ k = (k ≤ 14) × (rowFrom key (14 - k) k ≡ rowFrom key 14 0)
+abbrev key-of : tie.After-candidate → Key
+key-of c = c .before .before .before .before .args .key .now
 
-abbrev μ-loop : tie.MeasureT-loop
-μ-loop table key k₀ k = 14 - k
+chosen : (c : tie.After-candidate) → c .candidate .result ≡ candidateOf (key-of c)
+chosen c = c .candidate .ensures ∙ ap (λ (b : ℕ). rowBy b 14 0) (c .before .byte .ensures)
 
--- src/lib.rt:121:5
-loop-holds : tie.Need-loop-holds Inv-loop μ-loop
-loop-holds c = (omega arith, refl)
+below : (c : tie.After-candidate) → c .candidate .result < 16
+below c = rw (c .candidate .ensures) (led-below (c .before .byte .result) 14 0 (omega arith))
 
--- src/lib.rt:122:12
-is-row-requires : tie.Need-is-row-requires Inv-loop μ-loop
-is-row-requires c κs = (c .before .before .before .before .pre, c .loop-test .taken)
+-- src/lib.rt:180:25
+byte-requires : tie.Need-byte-requires
+byte-requires c κs = search needs
 
--- src/lib.rt:123:20
-cast-result : tie.Need-cast-result Inv-loop μ-loop
-cast-result c = omega arith
+-- src/lib.rt:180:9
+candidate-requires : tie.Need-candidate-requires
+candidate-requires c κs = search needs
 
--- src/lib.rt:123:13
-returns : tie.Need-returns Inv-loop μ-loop
+-- src/lib.rt:182:9
+returns : tie.Need-returns
 returns c =
-    let l = c .before .before .before .loop in
-    let key = c .before .before .before .before .before .before .args .key .now in
-    sym (found key (l .k) (omega arith) (sym (c .before .is-row .ensures) ∙ c .if1 .taken)) ∙ l .inv .1
+    let d = c .before in
+    sym (missed (key-of d) (d .candidate .result) (chosen d) (λ l. absurd (omega arith)) (λ z. absurd (omega arith)))
 
--- src/lib.rt:125:9
-add-k : tie.Need-add-k Inv-loop μ-loop
-add-k c = omega arith
-
--- src/lib.rt:121:5
-loop-less : tie.Need-loop-less Inv-loop μ-loop
-loop-less c = omega arith
-
--- src/lib.rt:121:5
-loop-again : tie.Need-loop-again Inv-loop μ-loop
-loop-again c =
-    let l = c .before .before .before .loop in
-    let key = c .before .before .before .before .before .before .args .key .now in
-    (omega arith, sym (passed key (l .k) (omega arith) (sym (c .before .is-row .ensures) ∙ c .if1 .left)) ∙ l .inv .1)
-
--- src/lib.rt:128:25
-slice-aggregate-equal : tie.Need-slice-aggregate-equal Inv-loop μ-loop
+-- src/lib.rt:186:29
+slice-aggregate-equal : tie.Need-slice-aggregate-equal
 slice-aggregate-equal c = search needs
 
--- src/lib.rt:128:8
-equal-requires : tie.Need-equal-requires Inv-loop μ-loop
-equal-requires c κs = tt
+-- src/lib.rt:186:12
+equal-requires : tie.Need-equal-requires
+equal-requires c κs = search needs
 
--- src/lib.rt:116:1
-returns-2 : tie.Need-returns-2 Inv-loop μ-loop
+-- src/lib.rt:187:13
+returns-2 : tie.Need-returns-2
 unfolding zeroKey
 returns-2 c =
-    let l = c .before .before .before .before .loop in
-    let key = c .before .before .before .before .before .before .before .args .key .now in
-    sym (ended key (l .k) _ (omega arith) (sym (c .before .equal .ensures) ∙ c .if2 .taken)) ∙ l .inv .1
+    let d = c .before .before .before .before .before in
+    sym (found-zero (key-of d) (same-true (key-of d) zeroKey (sym (c .before .equal .ensures) ∙ c .if3 .taken)))
 
--- src/lib.rt:116:1
-returns-3 : tie.Need-returns-3 Inv-loop μ-loop
+-- src/lib.rt:189:9
+returns-3 : tie.Need-returns-3
 unfolding zeroKey
 returns-3 c =
-    let l = c .before .before .before .before .loop in
-    let key = c .before .before .before .before .before .before .before .args .key .now in
-    sym (ended key (l .k) _ (omega arith) (sym (c .before .equal .ensures) ∙ c .if2 .left)) ∙ l .inv .1
+    let d = c .before .before .before .before .before in
+    sym (missed (key-of d) (d .candidate .result) (chosen d) (λ l. absurd (omega arith)) (λ z. sym (c .before .equal .ensures) ∙ c .if3 .left))
+
+-- src/lib.rt:191:22
+cast-is-row : tie.Need-cast-is-row
+cast-is-row c = search needs
+
+-- src/lib.rt:191:8
+is-row-requires : tie.Need-is-row-requires
+is-row-requires c κs = (c .before .before .before .before .before .before .pre, omega (arith, below (c .before .before)))
+
+-- src/lib.rt:192:9
+returns-4 : tie.Need-returns-4
+returns-4 c =
+    let d = c .before .before .before .before in
+    let k = d .candidate .result in
+    sym (found (key-of d) k (omega (arith, below d)) (same-true (idAt k) (key-of d) (sym (c .before .is-row .ensures) ∙ c .if4 .taken)))
+
+-- src/lib.rt:176:1
+returns-5 : tie.Need-returns-5
+returns-5 c =
+    let d = c .before .before .before .before in
+    sym (missed (key-of d) (d .candidate .result) (chosen d) (λ l. sym (c .before .is-row .ensures) ∙ c .if4 .left) (λ z. absurd (c .before .before .if2 .left z)))
 
 pub row-in-spec : {M : Type 1} → statement M
 row-in-spec =
     tie.close
     (tie.spec
-    Inv-loop
-    μ-loop
-    loop-holds
-    is-row-requires
-    cast-result
+    byte-requires
+    candidate-requires
     returns
-    add-k
-    loop-less
-    loop-again
     slice-aggregate-equal
     equal-requires
     returns-2
-    returns-3)
+    returns-3
+    cast-is-row
+    is-row-requires
+    returns-4
+    returns-5)
