@@ -12,7 +12,7 @@ use lib.Seq.{sets}
 use Rattle.wire.specs.Le.{le}
 use Rattle.pack.specs.Invocation.{instructionAt}
 use Rattle.pack.specs.Sections.{startOf, sectionOf}
-use Rattle.pack.specs.Items.{itemEnd, outersAt, outersWhole, groupGood, groupAt, groupsAt, groupsWhole}
+use Rattle.pack.specs.Items.{outersAt, groupGood, groupAt, groupsAt, groupsWhole}
 use Rattle.pack.specs.View.{outerIn, groupsIn}
 use Rattle.pack.specs.Flatten.{keptIn}
 use Rattle.pack.specs.Verdict.{numberOf, verdict}
@@ -21,7 +21,7 @@ use Rattle.pack.proofs.Counting.{all-length}
 use Rattle.pack.proofs.Sizes.{invocations-length}
 use Rattle.pack.proofs.Places.{group-inside}
 use Rattle.pack.proofs.Good.{passed, size-of, end-le, section-ends}
-use Rattle.pack.proofs.Kept.{Each, each-at, outers-each, groups-each, kept-each, kept-few, kept-all, kept-given, laid, laid-at}
+use Rattle.pack.proofs.Kept.{Each, each-at, groups-each, kept-each, kept-few, kept-all, kept-given, laid, laid-at}
 
 module _ (p s g : List ℕ) (o : ℕ) (e : numberOf (verdict p) ≡ 0) (is-s : s ≡ sectionOf p 2) (is-g : g ≡ sectionOf p 3) (is-o : o ≡ length (outersAt s)) where
   -- outer instructions, and the instructions of the groups that are kept
@@ -43,9 +43,6 @@ module _ (p s g : List ℕ) (o : ℕ) (e : numberOf (verdict p) ≡ 0) (is-s : s
       let c = end-le p (w .size) (w .starts) 2 (omega arith) in
       let d = end-le p (w .size) (w .starts) 3 (omega arith) in
       (omega arith, omega arith)
-
-  pub outers-room : (outersWhole s ≡ true) × (length (outersAt s) ≤ 1024) × (length s ≤ 61440)
-  outers-room = (rw is-s (passed p e .outers), omega (arith, total), omega (arith, ends .0))
 
   pub groups-room : (groupsWhole g ≡ true) × (length (keptAt g o) ≤ 1024) × (length g ≤ 61440)
   groups-room =
@@ -73,7 +70,7 @@ module _ (p s g : List ℕ) (o : ℕ) (e : numberOf (verdict p) ≡ 0) (is-s : s
 
     -- chains over them lead to all groups of an outer instruction
     pub chained : (next first : List ℕ) → ((k : ℕ) → k < n → getD next k 0 ≡ nextOf g (take n place) k)
-        → ((i : ℕ) → i < 1024 → getD first i 0 ≡ firstFrom g i 0 (take n place)) → (i : ℕ) → i < o → Chained g i place next first
+        → ((i : ℕ) → i < 1024 → getD first i 0 ≡ firstFrom g i 0 (take n place)) → (i : ℕ) → i < length (outersAt s) → Chained g i place next first
     chained next first links heads i h =
         record {
           gs = keptAt g o;
@@ -82,18 +79,8 @@ module _ (p s g : List ℕ) (o : ℕ) (e : numberOf (verdict p) ≡ 0) (is-s : s
           links = λ k l. rw kept-laid at (links k (omega arith));
           head = rw kept-laid at (heads i (omega (arith, total)));
           good = λ k l. group-inside g (getD (keptAt g o) k 0) (kept-is k (omega arith) .0) .1;
-          complete = λ base. kept-all (λ (at : ℕ). base + at) g o i h (groupsAt g);
+          complete = λ base. kept-all (λ (at : ℕ). base + at) g o i (omega arith) (groupsAt g);
         }
-
-  -- an array that the places of the outer instructions were written into
-  module _ (z outs : List ℕ) (long : length z ≡ 1024) (is-outs : outs ≡ sets z 0 (outersAt s)) where
-    pub outs-laid : take o outs ≡ outersAt s
-    outs-laid = rw (is-o, is-outs) (laid z (outersAt s) (omega (arith, outers-room .1)))
-
-    pub outs-room : (k : ℕ) → k < o → getD outs k 0 ≤ 61440
-    outs-room k h =
-        let x = each-at (λ (x : ℕ). (x < length s) × (itemEnd s x ≤ length s)) (outersAt s) (outers-each s (suc (length s)) 0 (outers-room .0)) k (omega arith) in
-        rw (is-outs, laid-at z (outersAt s) k (omega (arith, outers-room .1)) (omega arith)) (omega (arith, x .0, outers-room .2))
 
   -- all invocations have room
   pub spread-room : length (spreadOf (startOf p 2) (startOf p 3) g (outersAt s)) ≤ 1024

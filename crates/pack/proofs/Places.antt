@@ -5,7 +5,7 @@ use mathlib.Core.Bool.{true, false, _&&_}
 use mathlib.Core.List.{List, [], _∷_, map}
 use mathlib.Core.Option.{some}
 use Prim.Native.Nat.{ℕ, zero, suc, _+_, _-_, _*_, _≤_, _<_}
-use native.Mathlib.Nat.{add-suc}
+use native.Mathlib.Nat.{add-suc, sub-zero, zero-add}
 use native.Mathlib.Numerals.{add-one}
 use native.Mathlib.Omega.{arith}
 use borrow.Author.Tests.{lt-ltb, le-ltb, leb-true}
@@ -14,10 +14,10 @@ use lib.ListN.{length, set}
 use lib.Seq.{sets}
 use Rattle.wire.specs.Below.{and-left, and-right}
 use Rattle.pack.specs.Invocation.{Position}
-use Rattle.pack.specs.Items.{itemEnd, outersFrom, outersFill, heightAt, innersEnd, innersGood, innersFrom, countAt, groupEnd, groupGood, groupsFrom, groupsFill}
+use Rattle.pack.specs.Items.{itemEnd, outersFrom, outersFill, outersAt, outersWhole, heightAt, innersEnd, innersGood, innersFrom, countAt, groupEnd, groupGood, groupsFrom, groupsFill}
 use Rattle.pack.specs.Flatten.{numbered}
 use Rattle.pack.specs.Layout.{keeps, keptFrom}
-use Rattle.pack.proofs.Walk.{inners-inside, inners-grow}
+use Rattle.pack.proofs.Walk.{item-grows, inners-inside, inners-grow}
 
 -- the first of a run of stores
 pub sets-cons : (l : List ℕ) (n x : ℕ) (xs : List ℕ) → sets l n (x ∷ xs) ≡ sets (set l n x) (n + 1) xs
@@ -28,7 +28,7 @@ module _ (s : List ℕ) (n at : ℕ) (few : n ≤ length s) where
   split : suc (length s) - n ≡ suc (suc (length s) - (n + 1))
   split = omega arith
 
-  pub outers-next : at < length s → outersFill s (suc (length s) - n) at ≡ true
+  outers-next : at < length s → outersFill s (suc (length s) - n) at ≡ true
       → (itemEnd s at ≤ length s) × (outersFill s (suc (length s) - (n + 1)) (itemEnd s at) ≡ true)
   unfolding outersFill
   outers-next h e =
@@ -42,6 +42,34 @@ module _ (s : List ℕ) (n at : ℕ) (few : n ≤ length s) where
   pub outers-nil : length s ≤ at → outersFrom s (suc (length s) - n) at ≡ []
   unfolding outersFrom
   outers-nil h = rw (split, le-ltb at (length s) h)
+
+-- a walk over section 2 has come to `at`, with n instructions before it
+pub record Reached (s : List ℕ) (n at : ℕ) : Type 0 where
+  pub inside : at ≤ length s
+  pub few : n ≤ at
+  pub fill : outersFill s (suc (length s) - n) at ≡ true
+  pub count : n + length (outersFrom s (suc (length s) - n) at) ≡ length (outersAt s)
+
+pub reached-first : (s : List ℕ) → outersWhole s ≡ true → Reached s 0 0
+reached-first s e = record { inside = omega arith; few = omega arith; fill = simp sub-zero e; count = simp (sub-zero, zero-add) }
+
+module _ (s : List ℕ) (n at : ℕ) (r : Reached s n at) where
+  -- the instruction at `at` lies in the section, and the walk goes on behind it
+  pub reached-next : at < length s → (at + 8 ≤ itemEnd s at) × (itemEnd s at ≤ length s) × (n < length (outersAt s)) × Reached s (n + 1) (itemEnd s at)
+  reached-next h =
+      let few : n ≤ length s = omega (arith, r .few) in
+      let w = outers-next s n at few h (r .fill) in
+      let x = ap length (outers-cons s n at few h) in
+      let g = item-grows s at in (
+        g,
+        w .0,
+        omega (arith, r .count),
+        record { inside = w .0; few = omega (arith, r .few); fill = w .1; count = omega (arith, r .count) },
+      )
+
+  -- it is over
+  pub reached-last : length s ≤ at → n ≡ length (outersAt s)
+  reached-last h = let x = ap length (outers-nil s n at (omega (arith, r .few, r .inside)) h) in omega (arith, r .count)
 
 -- a group has a header of 6 bytes, and 13 and more for each instruction
 pub group-grows : (s : List ℕ) (at : ℕ) → at + 6 + 13 * countAt s at ≤ groupEnd s at

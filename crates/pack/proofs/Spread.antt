@@ -2,28 +2,29 @@
 -- Assumes nothing.
 use mathlib.Core.Path.{_≡_, sym, _∙_}
 use mathlib.Core.List.{List, [], _∷_, _++_, map}
-use Prim.Native.Nat.{ℕ, _+_, _≤_, _<_}
+use Prim.Native.Nat.{ℕ, suc, _+_, _-_, _≤_, _<_}
 use native.Mathlib.Numerals.{add-one}
-use lib.ListN.{length, getD, drop, set, drop-of-length-le}
-use lib.Seq.{sets, drop-cons}
+use lib.ListN.{length, set}
+use lib.Seq.{sets}
 use Rattle.pack.specs.Invocation.{Position}
 use Rattle.pack.specs.Group.{Group}
+use Rattle.pack.specs.Items.{itemEnd, outersFrom}
 use Rattle.pack.specs.Flatten.{inside, outermost, flattenFrom}
-use Rattle.pack.proofs.Places.{sets-cons}
+use Rattle.pack.proofs.Places.{sets-cons, outers-cons, outers-nil}
 use Rattle.pack.proofs.Chains.{wrote-more}
 
--- the outer instructions from outer i on, r reading each from its offset
-abbrev pub restFrom : (ℕ → ℕ) → List ℕ → List (Group ℕ) → ℕ → List (Position × ℕ)
-restFrom r outs gs i = flattenFrom i (map r (drop i outs)) gs
+-- the outer instructions from outer i on, which stands at `to` of their section; r reads each from its offset
+abbrev pub restFrom : (ℕ → ℕ) → List ℕ → List (Group ℕ) → ℕ → ℕ → List (Position × ℕ)
+restFrom r outs gs i to = flattenFrom i (map r (outersFrom outs (suc (length outs) - i) to)) gs
 
-module _ (r : ℕ → ℕ) (outs : List ℕ) (gs : List (Group ℕ)) (i : ℕ) where
-  pub rest-cons : i < length outs → restFrom r outs gs i ≡ (outermost i, r (getD outs i 0)) ∷ (inside i gs ++ restFrom r outs gs (i + 1))
+module _ (r : ℕ → ℕ) (outs : List ℕ) (gs : List (Group ℕ)) (i to : ℕ) (few : i ≤ length outs) where
+  pub rest-cons : to < length outs → restFrom r outs gs i to ≡ (outermost i, r to) ∷ (inside i gs ++ restFrom r outs gs (i + 1) (itemEnd outs to))
   unfolding flattenFrom
-  rest-cons h = rw (drop-cons outs i 0 h, add-one i)
+  rest-cons h = rw (outers-cons outs i to few h, add-one i)
 
-  pub rest-nil : length outs ≤ i → restFrom r outs gs i ≡ []
+  pub rest-nil : length outs ≤ to → restFrom r outs gs i to ≡ []
   unfolding flattenFrom
-  rest-nil h = rw (drop-of-length-le outs {i = i} h)
+  rest-nil h = rw (outers-nil outs i to few h)
 
 -- an outer instruction is written at place n, and its groups behind it
 pub wrote-outer : (f : Position × ℕ → ℕ) (l l₁ : List ℕ) (n m v : ℕ) (x : Position × ℕ) (ys zs ws : List (Position × ℕ)) → v ≡ f x

@@ -16,15 +16,14 @@ ghost use Rattle.pack.specs.Verdict.{verdict, numberOf};
 ghost use Rattle.pack.specs.Layout.{placedAt, keeps as keepsOf, keptAt, firstFrom, nextOf, raised, Chained, Wrote, spreadOf, layout, Flattened};
 use super::Verdict;
 
-// Where the instructions of section 2 start.
-fn outer_places(s: &[u8], place: &mut [u32; 1024]) -> usize
-    requires { ⌜ (outersWhole (now s) ≡ true) × (length (outersAt (now s)) ≤ 1024) × (length (now s) ≤ 61440) ⌝ }
-    ensures { λ r. ⌜ (r ≡ length (outersAt (now (s .entry)))) × (now (place .exit) ≡ sets (now (place .entry)) 0 (outersAt (now (s .entry)))) ⌝ }
+// How many instructions section 2 has.
+fn outer_count(s: &[u8]) -> usize
+    requires { ⌜ outersWhole (now s) ≡ true ⌝ }
+    ensures { λ r. ⌜ r ≡ length (outersAt (now (s .entry))) ⌝ }
 {
     let mut at = 0;
     let mut n = 0;
     while at < s.len() {
-        place[n] = at as u32;
         at = super::item_end(s, at);
         n += 1;
     }
@@ -170,13 +169,12 @@ fn own_groups(
     k
 }
 
-// Each outer instruction with its groups: `outs` says where the o outer instructions stand in their section, which starts at `from`.
+// Each outer instruction with its groups: `outs` is the section of the outer instructions, which starts at `from`.
 fn spread(
     s: &[u8],
     base: usize,
     from: usize,
-    outs: &[u32; 1024],
-    o: usize,
+    outs: &[u8],
     place: &[u32; 1024],
     next: &[u32; 1024],
     first: &[u32; 1024],
@@ -185,16 +183,17 @@ fn spread(
     inner: &mut [u32; 1024],
     height: &mut [u64; 1024],
 ) -> usize
-    requires { ⌜ ((i : ℕ) → i < o → Chained (now s) i (now place) (now next) (now first)) ⌝ }
-    requires { ⌜ (o ≤ 1024) × (length (now outs) ≡ 1024) × (from ≤ 61440) × ((k : ℕ) → k < o → getD (now outs) k 0 ≤ 61440) ⌝ }
-    requires { ⌜ (length (spreadOf from base (now s) (take o (now outs))) ≤ 1024) × (base + length (now s) ≤ 61440) ⌝ }
-    ensures { λ r. ⌜ Wrote (spreadOf from base (now (s .entry)) (take o (now (outs .entry)))) 0 r (now (at .entry)) (now (outer .entry)) (now (inner .entry)) (now (height .entry)) (now (at .exit)) (now (outer .exit)) (now (inner .exit)) (now (height .exit)) ⌝ }
+    requires { ⌜ ((i : ℕ) → i < length (outersAt (now outs)) → Chained (now s) i (now place) (now next) (now first)) ⌝ }
+    requires { ⌜ (outersWhole (now outs) ≡ true) × (from + length (now outs) ≤ 61440) × (base + length (now s) ≤ 61440) ⌝ }
+    requires { ⌜ length (spreadOf from base (now s) (outersAt (now outs))) ≤ 1024 ⌝ }
+    ensures { λ r. ⌜ Wrote (spreadOf from base (now (s .entry)) (outersAt (now (outs .entry)))) 0 r (now (at .entry)) (now (outer .entry)) (now (inner .entry)) (now (height .entry)) (now (at .exit)) (now (outer .exit)) (now (inner .exit)) (now (height .exit)) ⌝ }
 {
     let mut n = 0;
     let mut i = 0;
-    while i < o {
-        at[n] = (from + outs[i] as usize) as u32;
-        outer[n] = i as u32;
+    let mut to = 0;
+    while to < outs.len() {
+        at[n] = (from + to) as u32;
+        outer[n] = i;
         inner[n] = 0;
         height[n] = 2;
         n = own_groups(
@@ -203,13 +202,14 @@ fn spread(
             place,
             next,
             first,
-            i as u32,
+            i,
             n + 1,
             at,
             outer,
             inner,
             height,
         );
+        to = super::item_end(outs, to);
         i += 1;
     }
     n
@@ -226,8 +226,8 @@ fn fill(
     requires { ⌜ numberOf (verdict (now pack)) ≡ 0 ⌝ }
     ensures { λ r. ⌜ Wrote (layout (now (pack .entry))) 0 r (now (at .entry)) (now (outer .entry)) (now (inner .entry)) (now (height .entry)) (now (at .exit)) (now (outer .exit)) (now (inner .exit)) (now (height .exit)) ⌝ }
 {
-    let mut outs = [0u32; 1024];
-    let o = outer_places(super::section(pack, 2), &mut outs);
+    let outs = super::section(pack, 2);
+    let o = outer_count(outs);
     let s = super::section(pack, 3);
     let mut place = [0u32; 1024];
     let n = kept_places(s, o, &mut place);
@@ -240,8 +240,7 @@ fn fill(
         s,
         base,
         from,
-        &outs,
-        o,
+        outs,
         &place,
         &next,
         &first,
