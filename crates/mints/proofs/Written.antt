@@ -9,11 +9,11 @@ use Prim.Native.Nat.{ℕ, zero, suc, _-_, _*_, _≤_, _<_}
 use native.Mathlib.Decide.{ℕ-discrete}
 use native.Mathlib.Omega.{arith}
 use lib.Dec.{ltb}
-use lib.ListN.{length, getD, drop}
+use lib.ListN.{getD, drop}
 use lib.Seq.{take-add, drop-drop}
 use borrow.Author.Tests.{lt-ltb, ltb-true}
 use Rattle.ids.specs.Keys.{Key, zeroKey}
-use Rattle.evidence.specs.Keys.{ltKey, Below, ltKey-true, ltKey-false}
+use Rattle.evidence.specs.Keys.{Below, ltKey-true, ltKey-false}
 use Rattle.evidence.specs.Table.{Table, lookup}
 use Rattle.evidence.specs.Evidence.{Evidence, recorded}
 use Rattle.evidence.specs.Passes.{Transfers}
@@ -27,31 +27,11 @@ use Rattle.evidence.specs.Written as theory
 use Rattle.mints.specs.Cells.{accountAt, mintAt, stateAt, held}
 use Rattle.mints.specs.Order.{spotIn, putIn, sortTo, rowBytes, rowsBytes, mintOf, mintsTo}
 use Rattle.mints.specs.Bytes.{tableBytes, orZero, mintsOf}
-use Rattle.mints.proofs.Sorting.{spot-bound, sorted-mem, mem-sorted, getD-mem}
+use Rattle.mints.proofs.Sorting.{spot-bound, spot-before, spot-at, sorted-mem, mem-sorted, getD-mem}
 use Rattle.mints.proofs.Holding.{Apart, was}
 use Rattle.mints.proofs.Stepped.{Held}
 use Rattle.mints.proofs.States.{marked-filled, marked-other}
 use Rattle.mints.proofs.Marked.{Marked, has-mint, final-row}
-
--- the rows before the place of a row do not have a greater account, and the row at the place does
-spot-before : (t : List ℕ) (r : ℕ) (l : List ℕ) (i : ℕ) → i < spotIn t r l → ltKey (accountAt t r) (accountAt t (getD l i 0)) ≡ false
-unfolding spotIn
-spot-before t r [] i h = absurd (omega arith)
-spot-before t r (q ∷ l) i h = go (ltKey (accountAt t r) (accountAt t q)) refl i h (λ k. spot-before t r l k)
-  where
-    go : (b : Bool) → ltKey (accountAt t r) (accountAt t q) ≡ b → (i : ℕ) → i < cond b 0 (suc (spotIn t r l)) → ((k : ℕ) → k < spotIn t r l → ltKey (accountAt t r) (accountAt t (getD l k 0)) ≡ false) → ltKey (accountAt t r) (accountAt t (getD (q ∷ l) i 0)) ≡ false
-    go true e i h f = absurd (omega arith)
-    go false e zero h f = e
-    go false e (suc i) h f = f i (omega arith)
-
-spot-at : (t : List ℕ) (r : ℕ) (l : List ℕ) → spotIn t r l < length l → ltKey (accountAt t r) (accountAt t (getD l (spotIn t r l) 0)) ≡ true
-unfolding spotIn
-spot-at t r [] h = absurd (omega arith)
-spot-at t r (q ∷ l) h = go (ltKey (accountAt t r) (accountAt t q)) refl h (λ k. spot-at t r l k)
-  where
-    go : (b : Bool) → ltKey (accountAt t r) (accountAt t q) ≡ b → cond b 0 (suc (spotIn t r l)) < suc (length l) → (spotIn t r l < length l → ltKey (accountAt t r) (accountAt t (getD l (spotIn t r l) 0)) ≡ true) → ltKey (accountAt t r) (accountAt t (getD (q ∷ l) (cond b 0 (suc (spotIn t r l))) 0)) ≡ true
-    go true e h f = e
-    go false e h f = f (omega arith)
 
 -- rows with different accounts are put in order
 pub ascends : (t : List ℕ) (n : ℕ) → ((r q : ℕ) → r < n → q < n → accountAt t r ≡ accountAt t q → r ≡ q) → Ascending (accountAt t) (sortTo t n)

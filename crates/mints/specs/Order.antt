@@ -1,8 +1,9 @@
 -- The rows with a mint, ascending by account, and what is written of them.
 -- Assumes nothing.
 use Prim.Native.Nat.{ℕ, zero, suc, _-_, _*_}
-use mathlib.Core.Bool.{cond}
-use mathlib.Core.List.{List, [], _∷_, _++_}
+use mathlib.Core.Path.{_≡_}
+use mathlib.Core.Bool.{false, cond}
+use mathlib.Core.List.{List, [], _∷_, _++_, List·Memᴰ}
 use lib.Dec.{ltb}
 use lib.ListN.{getD, take, drop}
 use Rattle.ids.specs.Keys.{Key, zeroKey}
@@ -13,6 +14,11 @@ use Rattle.mints.specs.Cells.{accountAt, mintAt, stateAt}
 unfoldable pub spotIn : List ℕ → ℕ → List ℕ → ℕ
 spotIn t r [] = 0
 spotIn t r (q ∷ l) = let rest = spotIn t r l in cond (ltKey (accountAt t r) (accountAt t q)) 0 (suc rest)
+
+-- no row of a list has a lesser account than one before it
+pub data Rising (t : List ℕ) : List ℕ → Type 0 where
+  rising-nil : Rising t []
+  rising-cons : {r : ℕ} {l : List ℕ} → ((q : ℕ) → List·Memᴰ q l → ltKey (accountAt t q) (accountAt t r) ≡ false) → Rising t l → Rising t (r ∷ l)
 
 -- the list with r put in at place j
 abbrev pub putIn : List ℕ → ℕ → ℕ → List ℕ

@@ -6,7 +6,7 @@ ghost use lib.ListN.{length, take, drop};
 ghost use lib.Seq.{sets};
 ghost use Rattle.evidence.specs.Keys.{ltKey};
 ghost use Rattle.mints.specs.Cells.{Fits};
-ghost use Rattle.mints.specs.Order.{spotIn, putIn, sortTo, rowsBytes, mintOf, mintsTo};
+ghost use Rattle.mints.specs.Order.{spotIn, Rising, putIn, sortTo, rowsBytes, mintOf, mintsTo};
 
 // Whether both have eight bytes from place i on, and the same ones: they are compared at once.
 fn alike(a: &[u8], b: &[u8], i: usize) -> bool
@@ -46,21 +46,24 @@ fn less(a: &[u8], b: &[u8]) -> bool
     i < b.len()
 }
 
-// The place of row r among the first k of the ordered rows: before the first whose account is greater.
+// The place of row r among the first k of the ordered rows: before the first whose account is greater. They ascend, so it is found by halving.
 fn spot(table: &[u8], order: &[u32], k: usize, r: usize) -> usize
-    requires { ⌜ (k ≤ length (now order)) × (r * 65 + 65 ≤ length (now table)) × Fits (now table) (take k (now order)) ⌝ }
+    requires { ⌜ (k ≤ length (now order)) × (r * 65 + 65 ≤ length (now table)) × Fits (now table) (take k (now order)) × Rising (now table) (take k (now order)) ⌝ }
     ensures { λ j. ⌜ j ≡ spotIn (now (table .entry)) r (take k (now (order .entry))) ⌝ }
 {
     let x = r * 65;
-    let mut j = 0;
-    while j < k {
-        let y = order[j] as usize * 65;
+    let mut low = 0;
+    let mut high = k;
+    while low < high {
+        let middle = (low + high) / 2;
+        let y = order[middle] as usize * 65;
         if less(&table[x..x + 32], &table[y..y + 32]) {
-            return j;
+            high = middle;
+        } else {
+            low = middle + 1;
         }
-        j += 1;
     }
-    k
+    low
 }
 
 // Puts r in at place j of the first k.

@@ -1,4 +1,4 @@
-use Rattle.mints.proofs.Sorting.{spot-bound, put-length, sort-skip, sort-next, sort-fits}
+use Rattle.mints.proofs.Sorting.{spot-bound, put-length, sort-skip, sort-next, sort-fits, sort-rising}
 use Rattle.mints.specs.Order.{spotIn, sortTo}
 use lib.ListN.{length, take}
 use Prim.Native.Nat.{_-_, _≤_}
@@ -55,7 +55,7 @@ spot-requires : tie.Need-spot-requires Inv-loop μ-loop
 spot-requires c κs =
     let l = c .before .before .before .before .loop in
     let t = c .before .before .before .before .before .before .before .args .table .now in
-    (omega arith, omega arith, rw (l .inv .4) (sort-fits t (l .next) (omega arith) (omega arith)))
+    rw (l .inv .4) (omega arith, omega arith, sort-fits t (l .next) (omega arith) (omega arith), sort-rising t (l .next))
 
 -- src/order.rt:74:29
 cast-insert : tie.Need-cast-insert Inv-loop μ-loop

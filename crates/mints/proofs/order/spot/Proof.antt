@@ -1,9 +1,9 @@
-use Rattle.mints.proofs.Sorting.{fit-at, spot-here, spot-skip, spot-end}
+use Rattle.mints.proofs.Sorting.{fit-at, spot-bound, spot-low, spot-high}
 use Rattle.mints.specs.Order.{spotIn}
 use lib.Seq.{getD-take, length-take-le}
-use lib.ListN.{take, drop}
-use Prim.Native.Nat.{_+_, _*_, _-_, _≤_}
-use native.Mathlib.Nat.{zero-add, add-sub-cancel-left}
+use lib.ListN.{take}
+use Prim.Native.Nat.{_+_, _*_, _-_, _/_, _≤_}
+use native.Mathlib.Nat.{add-sub-cancel-left}
 use mathlib.Core.Path.{_≡_, refl, sym, _∙_}
 use native.Mathlib.Omega.{arith}
 use Rattle.mints.proofs.order.spot.Statement.{statement}
@@ -13,104 +13,112 @@ use Rattle.mints.proofs.order.spot.Lts as lts
 use Rattle.mints.proofs.order.less.Reads as less-reads
 
 abbrev Inv-loop : tie.InvT-loop
-Inv-loop table order k r x j₀ j = (j ≤ k) × (x ≡ r * 65) × (j + spotIn table r (drop j (take k order)) ≡ spotIn table r (take k order))
+Inv-loop table order k r x low₀ high₀ low high = (x ≡ r * 65) × (high ≤ k) × (low ≤ spotIn table r (take k order)) × (spotIn table r (take k order) ≤ high)
 
 abbrev μ-loop : tie.MeasureT-loop
-μ-loop table order k r x j₀ j = k - j
+μ-loop table order k r x low₀ high₀ low high = high - low
 
--- src/order.rt:35:13
+-- src/order.rt:54:13
 mul-x : tie.Need-mul-x Inv-loop μ-loop
 mul-x c = omega arith
 
--- src/order.rt:37:5
+-- src/order.rt:57:5
 loop-holds : tie.Need-loop-holds Inv-loop μ-loop
-loop-holds c = (omega arith, refl, zero-add _)
+loop-holds c =
+    let a = c .before .before .args in
+    (refl, omega arith, omega arith, omega (arith, spot-bound (a .table .now) (a .r) (take (a .k) (a .order .now)), length-take-le (a .k) (a .order .now) (c .before .before .pre .0)))
 
--- src/order.rt:38:17
+-- src/order.rt:58:22
+add-middle : tie.Need-add-middle Inv-loop μ-loop
+add-middle c = omega arith
+
+-- src/order.rt:59:17
 mul-y : tie.Need-mul-y Inv-loop μ-loop
 mul-y c = omega arith
 
--- src/order.rt:38:17
+-- src/order.rt:59:17
 shared-slice-read-y : tie.Need-shared-slice-read-y Inv-loop μ-loop
 shared-slice-read-y c = omega arith
 
--- src/order.rt:38:17
+-- src/order.rt:59:17
 cast-y : tie.Need-cast-y Inv-loop μ-loop
-cast-y c = omega (arith, c .shared-slice-known3 .given (c .before .before .loop .j))
+cast-y c = omega (arith, c .shared-slice-known3 .given ((c .before .before .loop .low + c .before .before .loop .high) / 2))
 
--- src/order.rt:38:17
+-- src/order.rt:59:17
 mul-y-2 : tie.Need-mul-y-2 Inv-loop μ-loop
-mul-y-2 c = omega (arith, fit-at (c .before .before .before .before .before .args .table .now) (c .before .before .before .before .before .args .order .now) (c .before .before .before .before .before .args .k) (c .before .before .loop .j) (omega arith) (c .before .before .before .before .before .pre .2))
+mul-y-2 c = omega (arith, fit-at (c .before .before .before .before .before .args .table .now) (c .before .before .before .before .before .args .order .now) (c .before .before .before .before .before .args .k) ((c .before .before .loop .low + c .before .before .loop .high) / 2) (omega arith) (c .before .before .before .before .before .pre .2))
 
--- src/order.rt:39:27
+-- src/order.rt:60:27
 add-less : tie.Need-add-less Inv-loop μ-loop
 add-less c = omega arith
 
--- src/order.rt:39:17
+-- src/order.rt:60:17
 sub-less : tie.Need-sub-less Inv-loop μ-loop
 sub-less c = omega arith
 
--- src/order.rt:39:17
+-- src/order.rt:60:17
 part-less-start : tie.Need-part-less-start Inv-loop μ-loop
 part-less-start c = omega arith
 
--- src/order.rt:39:17
+-- src/order.rt:60:17
 part-less-end : tie.Need-part-less-end Inv-loop μ-loop
 part-less-end c = omega arith
 
--- src/order.rt:39:46
+-- src/order.rt:60:46
 add-less-2 : tie.Need-add-less-2 Inv-loop μ-loop
-add-less-2 c = omega (arith, fit-at (c .before .before .before .before .before .before .args .table .now) (c .before .before .before .before .before .before .args .order .now) (c .before .before .before .before .before .before .args .k) (c .before .before .before .loop .j) (omega arith) (c .before .before .before .before .before .before .pre .2))
+add-less-2 c = omega (arith, fit-at (c .before .before .before .before .before .before .args .table .now) (c .before .before .before .before .before .before .args .order .now) (c .before .before .before .before .before .before .args .k) ((c .before .before .before .loop .low + c .before .before .before .loop .high) / 2) (omega arith) (c .before .before .before .before .before .before .pre .2))
 
--- src/order.rt:39:36
+-- src/order.rt:60:36
 sub-less-2 : tie.Need-sub-less-2 Inv-loop μ-loop
 sub-less-2 c = omega arith
 
--- src/order.rt:39:36
+-- src/order.rt:60:36
 part-less-start-2 : tie.Need-part-less-start-2 Inv-loop μ-loop
 part-less-start-2 c = omega arith
 
--- src/order.rt:39:36
+-- src/order.rt:60:36
 part-less-end-2 : tie.Need-part-less-end-2 Inv-loop μ-loop
-part-less-end-2 c = omega (arith, fit-at (c .before .before .before .before .before .before .args .table .now) (c .before .before .before .before .before .before .args .order .now) (c .before .before .before .before .before .before .args .k) (c .before .before .before .loop .j) (omega arith) (c .before .before .before .before .before .before .pre .2))
+part-less-end-2 c = omega (arith, fit-at (c .before .before .before .before .before .before .args .table .now) (c .before .before .before .before .before .before .args .order .now) (c .before .before .before .before .before .before .args .k) ((c .before .before .before .loop .low + c .before .before .before .loop .high) / 2) (omega arith) (c .before .before .before .before .before .before .pre .2))
 
--- src/order.rt:39:12
+-- src/order.rt:60:12
 less-requires : tie.Need-less-requires Inv-loop μ-loop
 less-requires c κs = tt
 
--- src/order.rt:40:13
-returns : tie.Need-returns Inv-loop μ-loop
-returns c =
-    let l = c .before .before .before .before .before .before .loop in
-    let a = c .before .before .before .before .before .before .before .before .before .args in
-    let e = simp add-sub-cancel-left at (c .before .less .ensures) in
-    let n = length-take-le (a .k) (a .order .now) (c .before .before .before .before .before .before .before .before .before .pre .0) in
-    sym (spot-here (a .table .now) (a .r) (take (a .k) (a .order .now)) (l .j) (omega (arith, n)) (rw (getD-take (a .k) (a .order .now) (l .j) 0 (omega arith)) (sym e ∙ c .if1 .taken))) ∙ l .inv .2
-
--- src/order.rt:42:9
-add-j : tie.Need-add-j Inv-loop μ-loop
-add-j c = omega arith
-
--- src/order.rt:37:5
+-- src/order.rt:57:5
 loop-less : tie.Need-loop-less Inv-loop μ-loop
 loop-less c = omega arith
 
--- src/order.rt:37:5
+-- src/order.rt:57:5
 loop-again : tie.Need-loop-again Inv-loop μ-loop
 loop-again c =
     let l = c .before .before .before .before .before .before .loop in
     let a = c .before .before .before .before .before .before .before .before .before .args in
     let e = simp add-sub-cancel-left at (c .before .less .ensures) in
-    let n = length-take-le (a .k) (a .order .now) (c .before .before .before .before .before .before .before .before .before .pre .0) in
-    (omega arith, l .inv .1, spot-skip (a .table .now) (a .r) (take (a .k) (a .order .now)) (l .j) (omega (arith, n)) (rw (getD-take (a .k) (a .order .now) (l .j) 0 (omega arith)) (sym e ∙ c .if1 .left)) ∙ l .inv .2)
+    let g = getD-take (a .k) (a .order .now) ((l .low + l .high) / 2) 0 (omega arith) in
+    (refl, omega arith, l .inv .2, spot-low (a .table .now) (a .r) (take (a .k) (a .order .now)) ((l .low + l .high) / 2) (rw g (sym e ∙ c .if1 .taken)))
 
--- src/order.rt:31:1
-returns-2 : tie.Need-returns-2 Inv-loop μ-loop
-returns-2 c =
-    let l = c .before .loop in
-    let a = c .before .before .before .before .args in
-    let n : l .j ≡ a .k = omega arith in
-    sym (spot-end (a .table .now) (a .r) (take (a .k) (a .order .now)) (a .k) (omega (arith, length-take-le (a .k) (a .order .now) (c .before .before .before .before .pre .0)))) ∙ rw n at (l .inv .2)
+-- src/order.rt:63:19
+add-low : tie.Need-add-low Inv-loop μ-loop
+add-low c = omega arith
+
+-- src/order.rt:57:5
+loop-less-2 : tie.Need-loop-less-2 Inv-loop μ-loop
+loop-less-2 c = omega arith
+
+-- src/order.rt:57:5
+loop-again-2 : tie.Need-loop-again-2 Inv-loop μ-loop
+loop-again-2 c =
+    let l = c .before .before .before .before .before .before .loop in
+    let a = c .before .before .before .before .before .before .before .before .before .args in
+    let e = simp add-sub-cancel-left at (c .before .less .ensures) in
+    let g = getD-take (a .k) (a .order .now) ((l .low + l .high) / 2) 0 (omega arith) in
+    let n = length-take-le (a .k) (a .order .now) (c .before .before .before .before .before .before .before .before .before .pre .0) in
+    let h = spot-high (a .table .now) (a .r) {l = take (a .k) (a .order .now)} ((l .low + l .high) / 2) (c .before .before .before .before .before .before .before .before .before .pre .3) (omega (arith, n)) (rw g (sym e ∙ c .if1 .left)) in
+    (refl, l .inv .1, omega (arith, h), l .inv .3)
+
+-- src/order.rt:50:1
+returns : tie.Need-returns Inv-loop μ-loop
+returns c = omega arith
 
 pub spot-spec : {M : Type 1} → statement M
 spot-spec =
@@ -120,6 +128,7 @@ spot-spec =
     μ-loop
     mul-x
     loop-holds
+    add-middle
     mul-y
     shared-slice-read-y
     cast-y
@@ -133,8 +142,9 @@ spot-spec =
     part-less-start-2
     part-less-end-2
     less-requires
-    returns
-    add-j
     loop-less
     loop-again
-    returns-2)
+    add-low
+    loop-less-2
+    loop-again-2
+    returns)
