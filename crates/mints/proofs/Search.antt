@@ -1,6 +1,6 @@
 -- The row search: what each way through it says of the first row with an account.
 -- Assumes nothing.
-use mathlib.Core.Path.{_≡_, sym, _∙_}
+use mathlib.Core.Path.{_≡_, sym, ap, _∙_}
 use mathlib.Core.Bool.{Bool, true, false, cond}
 use mathlib.Core.List.{List}
 use Prim.Native.Nat.{ℕ, zero, suc, _+_, _-_, _*_, _≤_, _<_}
@@ -10,7 +10,7 @@ use lib.ListN.{length, getD, length-take, length-drop}
 use lib.Seq.{ext-getD, getD-take, getD-drop}
 use lib.Dec.{ltb}
 use Rattle.wire.specs.Same.{same, same-refl, same-not-at}
-use Rattle.mints.specs.Cells.{accountAt, Fits, firstFrom}
+use Rattle.mints.specs.Cells.{accountAt, Fits, Ends, firstFrom}
 use Rattle.mints.specs.Gather.{rowOf}
 
 module _ (t k : List ℕ) where
@@ -53,6 +53,18 @@ module _ (t k : List ℕ) where
       go : (b : Bool) → firstFrom t k f (suc i) ≤ suc i + f → cond b i (firstFrom t k f (suc i)) ≤ i + suc f
       go true h = omega arith
       go false h = omega arith
+
+  missed : (f i : ℕ) → ((r : ℕ) → i ≤ r → r < i + f → same (accountAt t r) k ≡ false) → firstFrom t k f i ≡ i + f
+  unfolding firstFrom
+  missed zero i h = omega arith
+  missed (suc f) i h =
+      let e : suc i + f ≡ i + suc f = omega arith in
+      rw (h i (omega arith) (omega arith)) (missed f (suc i) (λ r a b. h r (omega arith) (omega arith)) ∙ e)
+
+  -- no row's account ends in the key's last byte
+  pub unended : (n : ℕ) (ends : List ℕ) → Ends t n ends → getD ends (getD k 31 0) 0 ≡ 0 → firstFrom t k n 0 ≡ n
+  unended n ends f e =
+      missed n 0 (λ r a b. account-not r 31 (omega arith) (λ q. f r (omega arith) (ap (λ (x : ℕ). getD ends x 0) q ∙ e))) ∙ omega arith
 
 -- row 0 is whole if any row is
 pub row-fits : (t row accounts : List ℕ) (i : ℕ) → Fits t row → rowOf row accounts i * 65 + 65 ≤ length t

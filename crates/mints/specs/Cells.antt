@@ -1,6 +1,7 @@
 -- The working table: 65-byte rows, an account, a mint and a state.
 -- Assumes nothing.
-use Prim.Native.Nat.{ℕ, zero, suc, _+_, _*_, _≤_}
+use Prim.Native.Nat.{ℕ, zero, suc, _+_, _*_, _≤_, _<_}
+use mathlib.Core.Logic.{_≢_}
 use mathlib.Core.Bool.{cond}
 use mathlib.Core.Option.{Option, none, some}
 use mathlib.Core.List.{List}
@@ -43,6 +44,10 @@ held (suc (suc s)) m = some m
 unfoldable pub firstFrom : List ℕ → Key → ℕ → ℕ → ℕ
 firstFrom t k zero i = i
 firstFrom t k (suc f) i = let rest = firstFrom t k f (suc i) in cond (same (accountAt t i) k) i rest
+
+-- an array has something other than 0 at the last byte of each of the first n rows' accounts
+abbrev pub Ends : List ℕ → ℕ → List ℕ → Type 0
+Ends t n ends = (r : ℕ) → r < n → getD ends (getD t (r * 65 + 31) 0) 0 ≢ 0
 
 -- the first of n rows whose account is k, and n where there is none
 abbrev pub firstRow : List ℕ → Key → ℕ → ℕ

@@ -9,7 +9,7 @@ ghost use lib.Dec.{eqb};
 ghost use lib.ListN.{length};
 ghost use lib.Seq.{sets};
 ghost use Rattle.ids.specs.Keys.{keyCount, keyOf};
-ghost use Rattle.mints.specs.Cells.{firstRow};
+ghost use Rattle.mints.specs.Cells.{firstRow, Ends};
 ghost use Rattle.mints.specs.Lay.{laid};
 
 // The first of the table's rows that holds the key, or `rows` where none does.
@@ -40,6 +40,17 @@ fn find(table: &[u8], rows: usize, key: &[u8]) -> usize
     found
 }
 
+// The same where `ends` tells which last bytes the rows' accounts have: a key with another one is new, and most new keys are found so without a search.
+fn row_for(table: &[u8], rows: usize, ends: &[u8; 256], key: &[u8]) -> usize
+    requires { ⌜ (length (now key) ≡ 32) × (rows * 65 ≤ length (now table)) × Ends (now table) rows (now ends) ⌝ }
+    ensures { λ r. ⌜ r ≡ firstRow (now (table .entry)) (now (key .entry)) rows ⌝ }
+{
+    if ends[wire::byte(key, 31) as usize] == 0 {
+        return rows;
+    }
+    find(table, rows, key)
+}
+
 // Adds a row for the key where the search found none; answers how many rows there are then.
 fn add(table: &mut [u8], rows: usize, r: usize, key: &[u8]) -> usize
     requires { ⌜ suc rows * 65 ≤ length (now table) ⌝ }
@@ -52,21 +63,33 @@ fn add(table: &mut [u8], rows: usize, r: usize, key: &[u8]) -> usize
     rows
 }
 
-// Lays the rows of the keys into the table, and the row of each key index into `row`; answers how many rows there are.
-pub(crate) fn lay(keys: &[u8], table: &mut [u8], row: &mut [u32]) -> usize
-    requires { ⌜ (keyCount (now keys) ≤ length (now row)) × (suc (keyCount (now keys)) * 65 ≤ length (now table)) × (length (now table) ≤ 65536) ⌝ }
+// Lays the rows of the keys into the table, and the row of each key index into `row`; answers how many rows there are. Whatever `ends` holds, the last
+// bytes of the rows are marked in it.
+fn lay_marking(keys: &[u8], table: &mut [u8], row: &mut [u32], ends: &mut [u8; 256]) -> usize
+    requires { ⌜ (keyCount (now keys) ≤ length (now row)) × (suc (keyCount (now keys)) * 65 ≤ length (now table)) × (length (now table) ≤ 65536) × (length (now ends) ≡ 256) ⌝ }
     ensures { λ n. ⌜ (now (table .exit) ≡ laid (keyOf (now (keys .entry))) (now (table .entry)) (now (row .entry)) (keyCount (now (keys .entry))) .table) × (now (row .exit) ≡ laid (keyOf (now (keys .entry))) (now (table .entry)) (now (row .entry)) (keyCount (now (keys .entry))) .row) × (n ≡ laid (keyOf (now (keys .entry))) (now (table .entry)) (now (row .entry)) (keyCount (now (keys .entry))) .rows) ⌝ }
 {
     let blank = [0u8; 32];
     table[64] = 1;
+    ends[wire::byte(table, 31) as usize] = 1;
     let mut rows = 1;
     let mut i = 0;
     while i < keys.len() / 33 {
         let key = ids::key(keys, &blank, i);
-        let r = find(table, rows, key);
+        let r = row_for(table, rows, ends, key);
         rows = add(table, rows, r, key);
+        ends[wire::byte(key, 31) as usize] = 1;
         row[i] = r as u32;
         i += 1;
     }
     rows
+}
+
+// The same, with an array of its own for the last bytes.
+pub(crate) fn lay(keys: &[u8], table: &mut [u8], row: &mut [u32]) -> usize
+    requires { ⌜ (keyCount (now keys) ≤ length (now row)) × (suc (keyCount (now keys)) * 65 ≤ length (now table)) × (length (now table) ≤ 65536) ⌝ }
+    ensures { λ n. ⌜ (now (table .exit) ≡ laid (keyOf (now (keys .entry))) (now (table .entry)) (now (row .entry)) (keyCount (now (keys .entry))) .table) × (now (row .exit) ≡ laid (keyOf (now (keys .entry))) (now (table .entry)) (now (row .entry)) (keyCount (now (keys .entry))) .row) × (n ≡ laid (keyOf (now (keys .entry))) (now (table .entry)) (now (row .entry)) (keyCount (now (keys .entry))) .rows) ⌝ }
+{
+    let mut ends = [0u8; 256];
+    lay_marking(keys, table, row, &mut ends)
 }
