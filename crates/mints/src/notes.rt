@@ -4,8 +4,9 @@ ghost use Prim.Native.Nat.{_+_, _*_, _/_, _≤_};
 ghost use mathlib.Core.Bool.{cond};
 ghost use lib.Dec.{ltb};
 ghost use lib.ListN.{length, getD};
+ghost use Rattle.wire.specs.Same.{same};
 ghost use Rattle.ids.specs.Cases.{Cases};
-ghost use Rattle.ids.specs.Keys.{keyAt, keyOf};
+ghost use Rattle.ids.specs.Keys.{zeroKey, keyAt, keyOf};
 ghost use Rattle.mints.specs.Cells.{Fits};
 ghost use Rattle.mints.specs.Gather.{rowOf, noteAccount, observed, isPlain, tokenAt, Gathers};
 ghost use Rattle.mints.specs.Note.{recordAt, newAt, balancesTo};
@@ -22,26 +23,37 @@ pub(crate) fn row_of(row: &[u32], index: usize) -> usize
     }
 }
 
+// Whether a mint is the zero key, which is none.
+fn is_zero(mint: &[u8]) -> bool
+    ensures { λ r. ⌜ r ≡ same (now (mint .entry)) zeroKey ⌝ }
+{
+    let blank = [0u8; 32];
+    wire::equal(mint, &blank)
+}
+
 // Records a mint in a row; answers how many accounts more are recorded.
 pub(crate) fn note(table: &mut [u8], r: usize, mint: &[u8]) -> usize
     requires { ⌜ (length (now mint) ≡ 32) × (r * 65 + 65 ≤ length (now table)) ⌝ }
     ensures { λ n. ⌜ (now (table .exit) ≡ recordAt (now (table .entry)) r (now (mint .entry))) × (n ≡ newAt (now (table .entry)) r (now (mint .entry))) ⌝ }
 {
-    let blank = [0u8; 32];
-    if wire::equal(mint, &blank) {
-        return 0;
-    }
-    let at = r * 65 + 32;
     let state = table[r * 65 + 64];
     if state == 0 {
-        wire::put(table, at, mint);
+        if is_zero(mint) {
+            return 0;
+        }
+        wire::put(table, r * 65 + 32, mint);
         table[r * 65 + 64] = 2;
         return 1;
     }
     if state != 2 {
         return 0;
     }
+    // Most mints are the recorded one, and that one is not zero.
+    let at = r * 65 + 32;
     if wire::equal(mint, &table[at..at + 32]) {
+        return 0;
+    }
+    if is_zero(mint) {
         return 0;
     }
     table[r * 65 + 64] = 1;
