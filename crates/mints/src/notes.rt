@@ -4,12 +4,13 @@ ghost use Prim.Native.Nat.{_+_, _*_, _/_, _≤_};
 ghost use mathlib.Core.Bool.{cond};
 ghost use lib.Dec.{ltb};
 ghost use lib.ListN.{length, getD};
+ghost use lib.Seq.{sets};
 ghost use Rattle.wire.specs.Same.{same};
-ghost use Rattle.ids.specs.Cases.{Cases};
-ghost use Rattle.ids.specs.Keys.{zeroKey, keyAt, keyOf};
+ghost use Rattle.ids.specs.Keys.{zeroKey, keyAt, keyCount, keyOf};
 ghost use Rattle.mints.specs.Cells.{Fits};
-ghost use Rattle.mints.specs.Gather.{rowOf, noteAccount, observed, isPlain, tokenAt, Gathers};
+ghost use Rattle.mints.specs.Gather.{rowOf, noteAccount, observed, isPlain, Gathers};
 ghost use Rattle.mints.specs.Note.{recordAt, newAt, balancesTo};
+ghost use Rattle.mints.specs.Programs.{programsOf};
 use token::Token;
 
 // The row of a key index: row 0, the zero key's, past the keys.
@@ -155,27 +156,14 @@ fn is_plain(token: Token) -> bool
     }
 }
 
-// The token instruction at an offset of the pack.
-fn token_at(keys: &[u8], cases: &[u8; 256], pack: &[u8], at: usize) -> Token
-    requires { ⌜ Cases (now keys) (now cases) ⌝ }
-    ensures { λ r. ⌜ r ≡ tokenAt (now (keys .entry)) (now (pack .entry)) at ⌝ }
-{
-    let id = ids::cases::program(keys, cases, pack::program(pack, at) as usize);
-    // Nothing is read of other programs.
-    if !token::token_program(id) {
-        return Token::Other;
-    }
-    let n = pack::accounts(pack, at).len();
-    token::parse(id, n, pack::data(pack, at))
-}
-
 // How many accounts are recorded, and how many plain transfers there are.
 pub struct Gathered {
     pub room: usize,
     pub count: usize,
 }
 
-// Records the evidence of the instructions at the offsets, and lists the rows of their plain transfers' sources and destinations.
+// Records the evidence of the instructions at the offsets, and lists the rows of their plain transfers' sources and destinations; keeps the numbers of
+// their programs.
 pub(crate) fn gather(
     keys: &[u8],
     pack: &[u8],
@@ -185,10 +173,12 @@ pub(crate) fn gather(
     from: &mut [u32],
     to: &mut [u32],
     recorded: usize,
+    programs: &mut [u8; 1024],
 ) -> Gathered
     requires { ⌜ (length (now at) ≤ length (now from)) × (length (now at) ≤ length (now to)) × (length (now at) ≤ 1024) × (recorded ≤ 576460752303423488) ⌝ }
-    requires { ⌜ (length (now table) ≤ 65536) × Fits (now table) (now row) ⌝ }
+    requires { ⌜ (length (now table) ≤ 65536) × Fits (now table) (now row) × (keyCount (now keys) ≤ 256) ⌝ }
     ensures { λ r. ⌜ Gathers (now (keys .entry)) (now (pack .entry)) (now (at .entry)) (now (row .entry)) (now (table .entry)) (now (from .entry)) (now (to .entry)) recorded (now (table .exit)) (now (from .exit)) (now (to .exit)) (r .room) (r .count) ⌝ }
+    ensures { λ _. ⌜ now (programs .exit) ≡ sets (now (programs .entry)) 0 (programsOf (now (keys .entry)) (now (pack .entry)) (now (at .entry))) ⌝ }
 {
     let mut cases = [0u8; 256];
     ids::cases::fill(keys, &mut cases);
@@ -197,9 +187,16 @@ pub(crate) fn gather(
     let mut i = 0;
     while i < at.len() {
         let o = at[i] as usize;
+        let number = ids::cases::number(&cases, pack::program(pack, o) as usize);
+        programs[i] = number;
         i += 1;
+        let id = ids::of_number(number);
+        // Nothing more is read of other programs.
+        if !token::token_program(id) {
+            continue;
+        }
         let accounts = pack::accounts(pack, o);
-        let token = token_at(keys, &cases, pack, o);
+        let token = token::parse(id, accounts.len(), pack::data(pack, o));
         room = observe(token, keys, accounts, row, table, room);
         if !is_plain(token) {
             continue;
