@@ -26,13 +26,18 @@ module _ (t : List ℕ) (r : ℕ) (m : Key) where
   unfolding recordAt newAt
   note-first e f = simp (e, eq-eqb _ _ f) (refl, refl)
 
-  pub note-ambiguous : same m zeroKey ≡ false → stateAt t r ≢ 0 → stateAt t r ≢ 2 → (t ≡ recordAt t r m) × (0 ≡ newAt t r m)
-  unfolding recordAt newAt
-  note-ambiguous e f g = simp (e, ne-eqb _ _ f, ne-eqb _ _ g) (refl, refl)
+  -- a zero mint and another one leave the same
+  idle : (b : Bool) → (t ≡ cond b t t) × (_≡_ {A = ℕ} 0 (cond b 0 0))
+  idle true = (refl, refl)
+  idle false = (refl, refl)
 
-  pub note-again : same m zeroKey ≡ false → stateAt t r ≡ 2 → same m (mintAt t r) ≡ true → (t ≡ recordAt t r m) × (0 ≡ newAt t r m)
+  pub note-ambiguous : stateAt t r ≢ 0 → stateAt t r ≢ 2 → (t ≡ recordAt t r m) × (0 ≡ newAt t r m)
   unfolding recordAt newAt
-  note-again e f g = simp (e, f, g) (refl, refl)
+  note-ambiguous f g = simp (ne-eqb _ _ f, ne-eqb _ _ g) (idle (same m zeroKey))
+
+  pub note-again : stateAt t r ≡ 2 → same m (mintAt t r) ≡ true → (t ≡ recordAt t r m) × (0 ≡ newAt t r m)
+  unfolding recordAt newAt
+  note-again f g = simp (f, g) (idle (same m zeroKey))
 
   pub note-other : same m zeroKey ≡ false → stateAt t r ≡ 2 → same m (mintAt t r) ≡ false → (withState t r 1 ≡ recordAt t r m) × (0 ≡ newAt t r m)
   unfolding recordAt newAt

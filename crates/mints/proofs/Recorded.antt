@@ -81,11 +81,11 @@ module _ {n : ℕ} {α : ℕ → Key} (p : Apart n α) (w : List ℕ) (t : Table
     noted-row : (s : ℕ) → stateAt w r ≡ s → s ≤ 2 → Noted (recordAt w r m) (newAt w r m)
     unfolding Noted
     noted-row zero q k = let x = noting.note-first w r m (same-ne v) q in rw (← x .0, ← x .1) (first q)
-    noted-row (suc zero) q k = let x = noting.note-ambiguous w r m (same-ne v) (λ f. omega arith) (λ f. omega arith) in rw (← x .0, ← x .1) (ambiguous q)
+    noted-row (suc zero) q k = let x = noting.note-ambiguous w r m (λ f. omega arith) (λ f. omega arith) in rw (← x .0, ← x .1) (ambiguous q)
     noted-row (suc (suc zero)) q k =
         by-cases
         (key? m (mintAt w r))
-        (λ f. let x = noting.note-again w r m (same-ne v) q (same-eq f) in rw (← x .0, ← x .1) (again q f))
+        (λ f. let x = noting.note-again w r m q (same-eq f) in rw (← x .0, ← x .1) (again q f))
         (λ d. let x = noting.note-other w r m (same-ne v) q (same-ne d) in rw (← x .0, ← x .1) (other q d))
     noted-row (suc (suc (suc s))) q k = absurd (omega arith)
 
@@ -100,7 +100,7 @@ module _ {n : ℕ} {α : ℕ → Key} (p : Apart n α) (w : List ℕ) (t : Table
       by-cases
       (ℕ-discrete r 0)
       (λ z.
-      let x = noting.note-ambiguous w r m (same-ne v) (λ f. omega (arith, row-zero z)) (λ f. omega (arith, row-zero z)) in
+      let x = noting.note-ambiguous w r m (λ f. omega (arith, row-zero z)) (λ f. omega (arith, row-zero z)) in
       rw (← x .0, ← x .1) (idle (note-account (α r, m) t (ap α z ∙ p .zero-row))))
       (λ z. noted-row (omega arith) v (stateAt w r) refl (h .low r l)))
     where

@@ -3,6 +3,7 @@ pub mod Lay
 pub mod Note
 pub mod Pass
 pub mod Gather
+pub mod Programs
 pub mod Order
 pub mod Bytes
 pub mod Inference

@@ -1,7 +1,7 @@
 // Mints: which mint each account holds, from what is recorded and what plain transfers hand on.
 //
 // `infer` answers how many rows table 0 needs and has, and after how many passes; it leaves these rows, ascending by account, and the final mint of each
-// key index. Each key is searched once, in a linear table; evidence, passes, marks and lookups go by row numbers.
+// key index, and the number of each invocation's program. Each key is searched once, in a linear table; evidence, passes, marks and lookups go by row numbers.
 ghost use mathlib.Core.Path.{_≡_};
 ghost use Prim.Native.Nat.{_≤_};
 ghost use lib.ListN.{length, take};
@@ -9,6 +9,7 @@ ghost use lib.Seq.{sets};
 ghost use Rattle.wire.specs.Zeros.{zeros};
 ghost use Rattle.ids.specs.Keys.{keyCount, keyOf};
 ghost use Rattle.mints.specs.Cells.{Fits};
+ghost use Rattle.mints.specs.Programs.{programsOf};
 ghost use Rattle.mints.specs.Prepare.{laidOf, gatheredOf};
 ghost use Rattle.mints.specs.Order.{sortTo, rowsBytes, mintsTo};
 ghost use Rattle.mints.specs.Inference.{inferredIn, answerOf, rowsOf, finalOf};
@@ -31,7 +32,7 @@ struct Ready {
     count: usize,
 }
 
-// Lays the rows of the keys, notes all evidence in them, and lists the plain transfers.
+// Lays the rows of the keys, notes all evidence in them, and lists the plain transfers and the programs.
 fn prepare(
     keys: &[u8],
     balances: &[u8],
@@ -41,14 +42,16 @@ fn prepare(
     row: &mut [u32],
     from: &mut [u32],
     to: &mut [u32],
+    programs: &mut [u8; 1024],
 ) -> Ready
     requires { ⌜ (length (now keys) ≤ 8448) × (length (now at) ≤ 1024) ⌝ }
     requires { ⌜ (now table ≡ zeros 16705) × (now row ≡ zeros 256) × (now from ≡ zeros 1024) × (now to ≡ zeros 1024) ⌝ }
     ensures { λ r. ⌜ (gatheredOf (now (keys .entry)) (now (balances .entry)) (now (pack .entry)) (now (at .entry)) ≡ record { noted = record { table = now (table .exit); room = r .room }; from = now (from .exit); to = now (to .exit); count = r .count }) × (now (row .exit) ≡ laidOf (now (keys .entry)) .row) × (r .rows ≡ laidOf (now (keys .entry)) .rows) ⌝ }
+    ensures { λ _. ⌜ now (programs .exit) ≡ sets (now (programs .entry)) 0 (programsOf (now (keys .entry)) (now (pack .entry)) (now (at .entry))) ⌝ }
 {
     let rows = table::lay(keys, table, row);
     let recorded = notes::note_balances(balances, row, table);
-    let g = notes::gather(keys, pack, at, row, table, from, to, recorded);
+    let g = notes::gather(keys, pack, at, row, table, from, to, recorded, programs);
     Ready {
         rows,
         room: g.room,
@@ -87,14 +90,16 @@ fn work(
     to: &mut [u32],
     rows: &mut [u8],
     known: &mut [u8],
+    programs: &mut [u8; 1024],
 ) -> Inferred
     requires { ⌜ (length (now keys) ≤ 8448) × (length (now at) ≤ 1024) ⌝ }
     requires { ⌜ (now table ≡ zeros 16705) × (now row ≡ zeros 256) × (now from ≡ zeros 1024) × (now to ≡ zeros 1024) ⌝ }
     ensures { λ r. ⌜ r ≡ answerOf (inferredIn (now (keys .entry)) (now (balances .entry)) (now (pack .entry)) (now (at .entry))) ⌝ }
     ensures { λ _. ⌜ now (rows .exit) ≡ sets (now (rows .entry)) 0 (rowsOf (inferredIn (now (keys .entry)) (now (balances .entry)) (now (pack .entry)) (now (at .entry)))) ⌝ }
     ensures { λ _. ⌜ now (known .exit) ≡ sets (now (known .entry)) 0 (finalOf (inferredIn (now (keys .entry)) (now (balances .entry)) (now (pack .entry)) (now (at .entry))) (keyOf (now (keys .entry))) (keyCount (now (keys .entry)))) ⌝ }
+    ensures { λ _. ⌜ now (programs .exit) ≡ sets (now (programs .entry)) 0 (programsOf (now (keys .entry)) (now (pack .entry)) (now (at .entry))) ⌝ }
 {
-    let ready = prepare(keys, balances, pack, at, table, row, from, to);
+    let ready = prepare(keys, balances, pack, at, table, row, from, to, programs);
     let count = ready.count;
     let ran = pass::run(table, from, to, count, ready.room);
     if ran.passes == 513 {
@@ -123,7 +128,8 @@ fn first_offsets(at: &[u32]) -> &[u32]
     if 1024 < at.len() { &at[0..1024] } else { at }
 }
 
-// The mint table: its rows into `rows`, and the final mint of each key index, 32 bytes, into `known`.
+// The mint table: its rows into `rows`, and the final mint of each key index, 32 bytes, into `known`; the number of each invocation's program into
+// `programs`.
 //
 // `at` are the offsets of the invocations' instructions in the pack. Of the keys the first 256 count, of the invocations the first 1,024.
 pub fn infer(
@@ -133,10 +139,12 @@ pub fn infer(
     at: &[u32],
     rows: &mut [u8],
     known: &mut [u8],
+    programs: &mut [u8; 1024],
 ) -> Inferred
     ensures { λ r. ⌜ r ≡ answerOf (inferredIn (take 8448 (now (keys .entry))) (now (balances .entry)) (now (pack .entry)) (take 1024 (now (at .entry)))) ⌝ }
     ensures { λ _. ⌜ now (rows .exit) ≡ sets (now (rows .entry)) 0 (rowsOf (inferredIn (take 8448 (now (keys .entry))) (now (balances .entry)) (now (pack .entry)) (take 1024 (now (at .entry))))) ⌝ }
     ensures { λ _. ⌜ now (known .exit) ≡ sets (now (known .entry)) 0 (finalOf (inferredIn (take 8448 (now (keys .entry))) (now (balances .entry)) (now (pack .entry)) (take 1024 (now (at .entry)))) (keyOf (take 8448 (now (keys .entry)))) (keyCount (take 8448 (now (keys .entry))))) ⌝ }
+    ensures { λ _. ⌜ now (programs .exit) ≡ sets (now (programs .entry)) 0 (programsOf (take 8448 (now (keys .entry))) (now (pack .entry)) (take 1024 (now (at .entry)))) ⌝ }
 {
     let keys = first_keys(keys);
     let at = first_offsets(at);
@@ -155,5 +163,6 @@ pub fn infer(
         &mut to,
         rows,
         known,
+        programs,
     )
 }

@@ -4,11 +4,13 @@ ghost use Prim.Native.Nat.{_+_, _*_, _/_, _≤_};
 ghost use mathlib.Core.Bool.{cond};
 ghost use lib.Dec.{ltb};
 ghost use lib.ListN.{length, getD};
-ghost use Rattle.ids.specs.Cases.{Cases};
-ghost use Rattle.ids.specs.Keys.{keyAt, keyOf};
+ghost use lib.Seq.{sets};
+ghost use Rattle.wire.specs.Same.{same};
+ghost use Rattle.ids.specs.Keys.{zeroKey, keyAt, keyCount, keyOf};
 ghost use Rattle.mints.specs.Cells.{Fits};
-ghost use Rattle.mints.specs.Gather.{rowOf, noteAccount, observed, isPlain, tokenAt, Gathers};
+ghost use Rattle.mints.specs.Gather.{rowOf, noteAccount, observed, isPlain, Gathers};
 ghost use Rattle.mints.specs.Note.{recordAt, newAt, balancesTo};
+ghost use Rattle.mints.specs.Programs.{programsOf};
 use token::Token;
 
 // The row of a key index: row 0, the zero key's, past the keys.
@@ -22,26 +24,37 @@ pub(crate) fn row_of(row: &[u32], index: usize) -> usize
     }
 }
 
+// Whether a mint is the zero key, which is none.
+fn is_zero(mint: &[u8]) -> bool
+    ensures { λ r. ⌜ r ≡ same (now (mint .entry)) zeroKey ⌝ }
+{
+    let blank = [0u8; 32];
+    wire::equal(mint, &blank)
+}
+
 // Records a mint in a row; answers how many accounts more are recorded.
 pub(crate) fn note(table: &mut [u8], r: usize, mint: &[u8]) -> usize
     requires { ⌜ (length (now mint) ≡ 32) × (r * 65 + 65 ≤ length (now table)) ⌝ }
     ensures { λ n. ⌜ (now (table .exit) ≡ recordAt (now (table .entry)) r (now (mint .entry))) × (n ≡ newAt (now (table .entry)) r (now (mint .entry))) ⌝ }
 {
-    let blank = [0u8; 32];
-    if wire::equal(mint, &blank) {
-        return 0;
-    }
-    let at = r * 65 + 32;
     let state = table[r * 65 + 64];
     if state == 0 {
-        wire::put(table, at, mint);
+        if is_zero(mint) {
+            return 0;
+        }
+        wire::put(table, r * 65 + 32, mint);
         table[r * 65 + 64] = 2;
         return 1;
     }
     if state != 2 {
         return 0;
     }
+    // Most mints are the recorded one, and that one is not zero.
+    let at = r * 65 + 32;
     if wire::equal(mint, &table[at..at + 32]) {
+        return 0;
+    }
+    if is_zero(mint) {
         return 0;
     }
     table[r * 65 + 64] = 1;
@@ -143,27 +156,14 @@ fn is_plain(token: Token) -> bool
     }
 }
 
-// The token instruction at an offset of the pack.
-fn token_at(keys: &[u8], cases: &[u8; 256], pack: &[u8], at: usize) -> Token
-    requires { ⌜ Cases (now keys) (now cases) ⌝ }
-    ensures { λ r. ⌜ r ≡ tokenAt (now (keys .entry)) (now (pack .entry)) at ⌝ }
-{
-    let id = ids::cases::program(keys, cases, pack::program(pack, at) as usize);
-    // Nothing is read of other programs.
-    if !token::token_program(id) {
-        return Token::Other;
-    }
-    let n = pack::accounts(pack, at).len();
-    token::parse(id, n, pack::data(pack, at))
-}
-
 // How many accounts are recorded, and how many plain transfers there are.
 pub struct Gathered {
     pub room: usize,
     pub count: usize,
 }
 
-// Records the evidence of the instructions at the offsets, and lists the rows of their plain transfers' sources and destinations.
+// Records the evidence of the instructions at the offsets, and lists the rows of their plain transfers' sources and destinations; keeps the numbers of
+// their programs.
 pub(crate) fn gather(
     keys: &[u8],
     pack: &[u8],
@@ -173,10 +173,12 @@ pub(crate) fn gather(
     from: &mut [u32],
     to: &mut [u32],
     recorded: usize,
+    programs: &mut [u8; 1024],
 ) -> Gathered
     requires { ⌜ (length (now at) ≤ length (now from)) × (length (now at) ≤ length (now to)) × (length (now at) ≤ 1024) × (recorded ≤ 576460752303423488) ⌝ }
-    requires { ⌜ (length (now table) ≤ 65536) × Fits (now table) (now row) ⌝ }
+    requires { ⌜ (length (now table) ≤ 65536) × Fits (now table) (now row) × (keyCount (now keys) ≤ 256) ⌝ }
     ensures { λ r. ⌜ Gathers (now (keys .entry)) (now (pack .entry)) (now (at .entry)) (now (row .entry)) (now (table .entry)) (now (from .entry)) (now (to .entry)) recorded (now (table .exit)) (now (from .exit)) (now (to .exit)) (r .room) (r .count) ⌝ }
+    ensures { λ _. ⌜ now (programs .exit) ≡ sets (now (programs .entry)) 0 (programsOf (now (keys .entry)) (now (pack .entry)) (now (at .entry))) ⌝ }
 {
     let mut cases = [0u8; 256];
     ids::cases::fill(keys, &mut cases);
@@ -185,9 +187,16 @@ pub(crate) fn gather(
     let mut i = 0;
     while i < at.len() {
         let o = at[i] as usize;
+        let number = ids::cases::number(&cases, pack::program(pack, o) as usize);
+        programs[i] = number;
         i += 1;
+        let id = ids::of_number(number);
+        // Nothing more is read of other programs.
+        if !token::token_program(id) {
+            continue;
+        }
         let accounts = pack::accounts(pack, o);
-        let token = token_at(keys, &cases, pack, o);
+        let token = token::parse(id, accounts.len(), pack::data(pack, o));
         room = observe(token, keys, accounts, row, table, room);
         if !is_plain(token) {
             continue;

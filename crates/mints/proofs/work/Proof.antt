@@ -20,70 +20,70 @@ use Rattle.mints.proofs.pass.run.Reads as run-reads
 use Rattle.mints.proofs.prepare.Reads as prepare-reads
 use Rattle.mints.proofs.publish.Reads as publish-reads
 
--- src/lib.rt:90:9
+-- src/lib.rt:104:9
 prepare-requires : tie.Need-prepare-requires
 prepare-requires c κs = search needs
 
--- src/lib.rt:92:9
+-- src/lib.rt:106:9
 run-requires : tie.Need-run-requires
 run-requires c κs =
-    let a = c .before .before .before .before .before .before .before .before .before .before .before .before .before .before .before .before .before .before .before .before .before .before .before .before .before .before .args in
-    let few : keyCount (a .keys .now) ≤ 256 = omega (arith, c .before .before .before .before .before .before .before .before .before .before .before .before .before .before .before .before .before .before .before .before .before .before .before .before .before .before .pre .0 .0) in
-    let short = c .before .before .before .before .before .before .before .before .before .before .before .before .before .before .before .before .before .before .before .before .before .before .before .before .before .before .pre .0 .1 in
-    let e = c .before .before .before .before .before .before .before .before .before .before .before .prepare .ensures .0 in
+    let a = c .before .before .before .before .before .before .before .before .before .before .before .before .before .before .before .before .before .before .before .before .before .before .before .before .before .before .before .args in
+    let few : keyCount (a .keys .now) ≤ 256 = omega (arith, c .before .before .before .before .before .before .before .before .before .before .before .before .before .before .before .before .before .before .before .before .before .before .before .before .before .before .before .pre .0 .0) in
+    let short = c .before .before .before .before .before .before .before .before .before .before .before .before .before .before .before .before .before .before .before .before .before .before .before .before .before .before .before .pre .0 .1 in
+    let e = c .before .before .before .before .before .before .before .before .before .before .before .prepare .ensures .0 .0 in
     let k = counted (a .keys .now) (a .balances .now) (a .pack .now) (a .at .now) few short e in
-    ((k .0, noted-few (a .keys .now) (a .balances .now) (a .pack .now) (a .at .now) few short e (omega (arith, c .before .before .before .before .before .before .before .before .before .before .before .before .before .before .before .before .before .before .before .before .before .before .before .before .before .before .good .1 .0))), (k .1, k .2, sources-fit (a .keys .now) (a .balances .now) (a .pack .now) (a .at .now) few short e, targets-fit (a .keys .now) (a .balances .now) (a .pack .now) (a .at .now) few short e))
+    ((k .0, noted-few (a .keys .now) (a .balances .now) (a .pack .now) (a .at .now) few short e (omega (arith, c .before .before .before .before .before .before .before .before .before .before .before .before .before .before .before .before .before .before .before .before .before .before .before .before .before .before .before .good .1 .0))), (k .1, k .2, sources-fit (a .keys .now) (a .balances .now) (a .pack .now) (a .at .now) few short e, targets-fit (a .keys .now) (a .balances .now) (a .pack .now) (a .at .now) few short e))
 
--- src/lib.rt:94:9
+-- src/lib.rt:108:9
 same-length : tie.Need-same-length
 same-length c = search needs
 
--- src/lib.rt:94:9
+-- src/lib.rt:108:9
 same-length-2 : tie.Need-same-length-2
 same-length-2 c = search needs
 
--- src/lib.rt:94:9
+-- src/lib.rt:108:9
 same-length-3 : tie.Need-same-length-3
 same-length-3 c = search needs
 
--- src/lib.rt:94:9
+-- src/lib.rt:108:9
 same-length-4 : tie.Need-same-length-4
 same-length-4 c = search needs
 
--- src/lib.rt:94:9
+-- src/lib.rt:108:9
 returns : tie.Need-returns
 unfolding answerOf rowsOf finalOf
 returns c =
-    let a = c .before .before .before .before .before .before .before .before .before .before .before .before .before .before .before .before .before .before .before .before .before .before .before .before .before .before .before .before .before .before .before .args in
-    let few : keyCount (a .keys .now) ≤ 256 = omega (arith, c .before .before .before .before .before .before .before .before .before .before .before .before .before .before .before .before .before .before .before .before .before .before .before .before .before .before .before .before .before .before .before .pre .0 .0) in
-    let short = c .before .before .before .before .before .before .before .before .before .before .before .before .before .before .before .before .before .before .before .before .before .before .before .before .before .before .before .before .before .before .before .pre .0 .1 in
-    let e = c .before .before .before .before .before .before .before .before .before .before .before .before .before .before .before .before .prepare .ensures .0 in
-    rw (none-right (a .keys .now) (a .balances .now) (a .pack .now) (a .at .now) few short e (sym (c .before .before .before .before .run .ensures .2) ∙ c .if1 .taken)) (refl, (refl, refl))
+    let a = c .before .before .before .before .before .before .before .before .before .before .before .before .before .before .before .before .before .before .before .before .before .before .before .before .before .before .before .before .before .before .before .before .args in
+    let few : keyCount (a .keys .now) ≤ 256 = omega (arith, c .before .before .before .before .before .before .before .before .before .before .before .before .before .before .before .before .before .before .before .before .before .before .before .before .before .before .before .before .before .before .before .before .pre .0 .0) in
+    let short = c .before .before .before .before .before .before .before .before .before .before .before .before .before .before .before .before .before .before .before .before .before .before .before .before .before .before .before .before .before .before .before .before .pre .0 .1 in
+    let e = c .before .before .before .before .before .before .before .before .before .before .before .before .before .before .before .before .prepare .ensures .0 .0 in
+    rw (none-right (a .keys .now) (a .balances .now) (a .pack .now) (a .at .now) few short e (sym (c .before .before .before .before .run .ensures .2) ∙ c .if1 .taken)) (refl, (refl, (refl, c .before .before .before .before .before .before .before .before .before .before .before .before .before .before .before .before .prepare .ensures .1)))
 
--- src/lib.rt:96:5
+-- src/lib.rt:110:5
 doubts-requires : tie.Need-doubts-requires
 doubts-requires c κs =
-    let a = c .before .before .before .before .before .before .before .before .before .before .before .before .before .before .before .before .before .before .before .before .before .before .before .before .before .before .before .before .before .before .before .before .before .before .args in
-    let few : keyCount (a .keys .now) ≤ 256 = omega (arith, c .before .before .before .before .before .before .before .before .before .before .before .before .before .before .before .before .before .before .before .before .before .before .before .before .before .before .before .before .before .before .before .before .before .before .pre .0 .0) in
-    let short = c .before .before .before .before .before .before .before .before .before .before .before .before .before .before .before .before .before .before .before .before .before .before .before .before .before .before .before .before .before .before .before .before .before .before .pre .0 .1 in
-    let e = c .before .before .before .before .before .before .before .before .before .before .before .before .before .before .before .before .before .before .before .prepare .ensures .0 in
+    let a = c .before .before .before .before .before .before .before .before .before .before .before .before .before .before .before .before .before .before .before .before .before .before .before .before .before .before .before .before .before .before .before .before .before .before .before .args in
+    let few : keyCount (a .keys .now) ≤ 256 = omega (arith, c .before .before .before .before .before .before .before .before .before .before .before .before .before .before .before .before .before .before .before .before .before .before .before .before .before .before .before .before .before .before .before .before .before .before .before .pre .0 .0) in
+    let short = c .before .before .before .before .before .before .before .before .before .before .before .before .before .before .before .before .before .before .before .before .before .before .before .before .before .before .before .before .before .before .before .before .before .before .before .pre .0 .1 in
+    let e = c .before .before .before .before .before .before .before .before .before .before .before .before .before .before .before .before .before .before .before .prepare .ensures .0 .0 in
     let k = counted (a .keys .now) (a .balances .now) (a .pack .now) (a .at .now) few short e in
     let l : length (c .before .before .before .before .before .before .before .run .last .0) ≡ length (c .before .before .before .before .before .before .before .before .before .before .before .before .before .before .before .before .before .before .before .prepare .last .1 .1 .1 .1 .0) = c .before .before .before .before .before .before .before .run .kept .0 in
     (k .1, k .2, λ i. rw l (sources-fit (a .keys .now) (a .balances .now) (a .pack .now) (a .at .now) few short e i), λ i. rw l (targets-fit (a .keys .now) (a .balances .now) (a .pack .now) (a .at .now) few short e i))
 
--- src/lib.rt:97:45
+-- src/lib.rt:111:45
 key-count-requires : tie.Need-key-count-requires
 key-count-requires c κs = search needs
 
--- src/lib.rt:97:9
+-- src/lib.rt:111:9
 publish-requires : tie.Need-publish-requires
 publish-requires c κs =
-    let a = c .before .before .before .before .before .before .before .before .before .before .before .before .before .before .before .before .before .before .before .before .before .before .before .before .before .before .before .before .before .before .before .before .before .before .before .before .before .before .before .before .before .before .args in
-    let few : keyCount (a .keys .now) ≤ 256 = omega (arith, c .before .before .before .before .before .before .before .before .before .before .before .before .before .before .before .before .before .before .before .before .before .before .before .before .before .before .before .before .before .before .before .before .before .before .before .before .before .before .before .before .before .before .pre .0 .0) in
-    let short = c .before .before .before .before .before .before .before .before .before .before .before .before .before .before .before .before .before .before .before .before .before .before .before .before .before .before .before .before .before .before .before .before .before .before .before .before .before .before .before .before .before .before .pre .0 .1 in
-    let e = c .before .before .before .before .before .before .before .before .before .before .before .before .before .before .before .before .before .before .before .before .before .before .before .before .before .before .before .prepare .ensures .0 in
-    let q = c .before .before .before .before .before .before .before .before .before .before .before .before .before .before .before .before .before .before .before .before .before .before .before .before .before .before .before .prepare .ensures in
-    let z = c .before .before .before .before .before .before .before .before .before .before .before .before .before .before .before .before .before .before .before .before .before .before .before .before .before .before .before .before .before .before .before .before .before .before .before .before .before .before .before .before .before .before .pre .1 in
+    let a = c .before .before .before .before .before .before .before .before .before .before .before .before .before .before .before .before .before .before .before .before .before .before .before .before .before .before .before .before .before .before .before .before .before .before .before .before .before .before .before .before .before .before .before .args in
+    let few : keyCount (a .keys .now) ≤ 256 = omega (arith, c .before .before .before .before .before .before .before .before .before .before .before .before .before .before .before .before .before .before .before .before .before .before .before .before .before .before .before .before .before .before .before .before .before .before .before .before .before .before .before .before .before .before .before .pre .0 .0) in
+    let short = c .before .before .before .before .before .before .before .before .before .before .before .before .before .before .before .before .before .before .before .before .before .before .before .before .before .before .before .before .before .before .before .before .before .before .before .before .before .before .before .before .before .before .before .pre .0 .1 in
+    let e = c .before .before .before .before .before .before .before .before .before .before .before .before .before .before .before .before .before .before .before .before .before .before .before .before .before .before .before .prepare .ensures .0 .0 in
+    let q = c .before .before .before .before .before .before .before .before .before .before .before .before .before .before .before .before .before .before .before .before .before .before .before .before .before .before .before .prepare .ensures .0 in
+    let z = c .before .before .before .before .before .before .before .before .before .before .before .before .before .before .before .before .before .before .before .before .before .before .before .before .before .before .before .before .before .before .before .before .before .before .before .before .before .before .before .before .before .before .before .pre .1 in
     let x : length (c .before .before .before .before .before .before .before .before .before .before .before .before .before .before .before .before .before .before .before .before .before .before .before .before .before .before .before .prepare .last .1 .1 .1 .1 .0) ≡ length (a .table .now) = c .before .before .before .before .before .before .before .before .before .before .before .before .before .before .before .before .before .before .before .before .before .before .before .before .before .before .before .prepare .kept .1 .1 .1 .1 .0 in
     let y : length (c .before .before .before .before .before .before .before .before .before .before .before .before .before .before .before .run .last .0) ≡ length (c .before .before .before .before .before .before .before .before .before .before .before .before .before .before .before .before .before .before .before .before .before .before .before .before .before .before .before .prepare .last .1 .1 .1 .1 .0) = c .before .before .before .before .before .before .before .before .before .before .before .before .before .before .before .run .kept .0 in
     let d : length (c .before .before .before .before .before .before .before .doubts .last .0) ≡ length (c .before .before .before .before .before .before .before .before .before .before .before .before .before .before .before .run .last .0) = c .before .before .before .before .before .before .before .doubts .kept .0 in
@@ -99,38 +99,38 @@ publish-requires c κs =
       λ i. rw (t, q .1) (omega (arith, h i, rows-laid (a .keys .now) few .whole)),
     )
 
--- src/lib.rt:72:1
+-- src/lib.rt:84:1
 same-length-5 : tie.Need-same-length-5
 same-length-5 c = search needs
 
--- src/lib.rt:72:1
+-- src/lib.rt:84:1
 same-length-6 : tie.Need-same-length-6
 same-length-6 c = search needs
 
--- src/lib.rt:72:1
+-- src/lib.rt:84:1
 same-length-7 : tie.Need-same-length-7
 same-length-7 c = search needs
 
--- src/lib.rt:72:1
+-- src/lib.rt:84:1
 same-length-8 : tie.Need-same-length-8
 same-length-8 c = search needs
 
--- src/lib.rt:72:1
+-- src/lib.rt:84:1
 same-length-9 : tie.Need-same-length-9
 same-length-9 c = search needs
 
--- src/lib.rt:72:1
+-- src/lib.rt:84:1
 same-length-10 : tie.Need-same-length-10
 same-length-10 c = search needs
 
--- src/lib.rt:72:1
+-- src/lib.rt:84:1
 returns-2 : tie.Need-returns-2
 returns-2 c =
-    let a = c .before .before .before .before .before .before .before .before .before .before .before .before .before .before .before .before .before .before .before .before .before .before .before .before .before .before .before .before .before .before .before .before .before .before .before .before .before .before .before .before .before .before .before .before .before .before .before .args in
-    let few : keyCount (a .keys .now) ≤ 256 = omega (arith, c .before .before .before .before .before .before .before .before .before .before .before .before .before .before .before .before .before .before .before .before .before .before .before .before .before .before .before .before .before .before .before .before .before .before .before .before .before .before .before .before .before .before .before .before .before .before .before .pre .0 .0) in
-    let short = c .before .before .before .before .before .before .before .before .before .before .before .before .before .before .before .before .before .before .before .before .before .before .before .before .before .before .before .before .before .before .before .before .before .before .before .before .before .before .before .before .before .before .before .before .before .before .before .pre .0 .1 in
-    let e = c .before .before .before .before .before .before .before .before .before .before .before .before .before .before .before .before .before .before .before .before .before .before .before .before .before .before .before .before .before .before .before .before .prepare .ensures .0 in
-    let q = c .before .before .before .before .before .before .before .before .before .before .before .before .before .before .before .before .before .before .before .before .before .before .before .before .before .before .before .before .before .before .before .before .prepare .ensures in
+    let a = c .before .before .before .before .before .before .before .before .before .before .before .before .before .before .before .before .before .before .before .before .before .before .before .before .before .before .before .before .before .before .before .before .before .before .before .before .before .before .before .before .before .before .before .before .before .before .before .before .args in
+    let few : keyCount (a .keys .now) ≤ 256 = omega (arith, c .before .before .before .before .before .before .before .before .before .before .before .before .before .before .before .before .before .before .before .before .before .before .before .before .before .before .before .before .before .before .before .before .before .before .before .before .before .before .before .before .before .before .before .before .before .before .before .before .pre .0 .0) in
+    let short = c .before .before .before .before .before .before .before .before .before .before .before .before .before .before .before .before .before .before .before .before .before .before .before .before .before .before .before .before .before .before .before .before .before .before .before .before .before .before .before .before .before .before .before .before .before .before .before .before .pre .0 .1 in
+    let e = c .before .before .before .before .before .before .before .before .before .before .before .before .before .before .before .before .before .before .before .before .before .before .before .before .before .before .before .before .before .before .before .before .prepare .ensures .0 .0 in
+    let q = c .before .before .before .before .before .before .before .before .before .before .before .before .before .before .before .before .before .before .before .before .before .before .before .before .before .before .before .before .before .before .before .before .prepare .ensures .0 in
     let r = c .before .before .before .before .before .before .before .before .before .before .before .before .before .before .before .before .before .before .before .before .run .ensures in
     let u = c .before .before .before .before .publish .ensures in
     let f = c .before .before .before .before .before .before .before .before .before .before .before .before .before .before .before .before .before .before .before .before .before .before .before .before .before .before .before .before .before .before .before .before .prepare .last .1 .1 .1 .1 .1 .1 .0 in
@@ -139,7 +139,7 @@ returns-2 c =
     let v : c .before .before .before .before .before .before .before .before .before .before .before .before .doubts .last .0 ≡ doubtsTo f g (passes f g n (c .before .before .before .before .before .before .before .before .before .before .before .before .before .before .before .before .before .before .before .before .before .before .before .before .before .before .before .before .before .before .before .before .prepare .last .1 .1 .1 .1 .0) (c .before .before .before .before .before .before .before .before .before .before .before .before .before .before .before .before .before .before .before .before .before .before .before .before .before .before .before .before .before .before .before .before .prepare .result .room) .table) n = c .before .before .before .before .before .before .before .before .before .before .before .before .doubts .ensures ∙ rw (r .0) in
     let y = some-right (a .keys .now) (a .balances .now) (a .pack .now) (a .at .now) few short e (λ z. c .before .before .before .before .before .before .before .before .before .before .before .before .before .before .before .before .if1 .left (r .2 ∙ z)) in (
       rw (r .1, r .2, u .0, v, q .2) (y .answer),
-      (u .1 ∙ rw (v, q .2, y .rows), u .2 ∙ rw (v, q .1, c .before .before .before .before .before .before .before .key-count .ensures, y .final)),
+      (u .1 ∙ rw (v, q .2, y .rows), (u .2 ∙ rw (v, q .1, c .before .before .before .before .before .before .before .key-count .ensures, y .final), c .before .before .before .before .before .before .before .before .before .before .before .before .before .before .before .before .before .before .before .before .before .before .before .before .before .before .before .before .before .before .before .before .prepare .ensures .1)),
     )
 
 pub work-spec : {M : Type 1} → statement M
