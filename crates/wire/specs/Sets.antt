@@ -1,13 +1,13 @@
 -- Laws of `sets l i vs`, the list l with vs stored from place i on: the form of a promise on a lent table.
 -- Assumes nothing.
 use mathlib.Core.Path.{_≡_, refl, sym, ap, _∙_}
-use mathlib.Core.List.{List, [], _∷_, _++_}
+use mathlib.Core.List.{List, [], _∷_, _++_, append-nil}
 use Prim.Native.Nat.{ℕ, zero, suc, _+_, _≤_, _<_}
-use native.Mathlib.Nat.{add-zero, add-suc, suc-add}
+use native.Mathlib.Nat.{zero-add, add-zero, add-suc, suc-add}
 use native.Mathlib.Numerals.{add-one}
 use native.Mathlib.Omega.{arith}
 use lib.ListN.{length, getD, take, drop, set, length-set, take-append-drop}
-use lib.Seq.{sets, length-sets, set-out, set-comm, take-suc, length-take-le, getD-set-same, getD-set-other}
+use lib.Seq.{sets, sets-eq, drop-length, length-sets, set-out, set-comm, take-suc, length-take-le, getD-set-same, getD-set-other}
 
 -- a run of stores in two runs
 pub sets-append : (l : List ℕ) (i : ℕ) (a b : List ℕ) → sets l i (a ++ b) ≡ sets (sets l i a) (i + length a) b
@@ -65,3 +65,8 @@ sets-past l i (v ∷ vs) h = rw (set-out l i v h) (sets-past l (suc i) vs (omega
 pub sets-cut : (l : List ℕ) (i : ℕ) (vs : List ℕ) (n : ℕ) → i + n ≡ length l → n ≤ length vs → sets l i (take n vs) ≡ sets l i vs
 sets-cut l i vs n e h =
     sym (sets-past (sets l i (take n vs)) (i + n) (drop n vs) (rw length-sets (omega arith))) ∙ sets-rest l i vs n h
+
+-- stores over the whole of a list leave what was stored
+pub sets-whole : (l vs : List ℕ) → length vs ≡ length l → sets l 0 vs ≡ vs
+sets-whole l vs e =
+    sets-eq vs l 0 (omega arith) ∙ rw (zero-add, e, drop-length l) (append-nil vs)
