@@ -122,7 +122,8 @@ fn put_end(
 }
 
 // The row at `at`: the invocation's number, its program's index, its leg as `leg` answers it, the mints known of the input account and of the output
-// account (32 bytes each, all zero if none is known), and the graduated pools.
+// account (32 bytes each, all zero if none is known), and the graduated pools. It is built in an array of its own, where every field is known to fit, and put
+// in one piece; past the end none is built.
 pub fn put_leg<'a>(
     out: &mut [u8],
     at: usize,
@@ -139,11 +140,12 @@ pub fn put_leg<'a>(
     if out.len() <= at {
         return;
     }
-    wire::put_u32(out, at, invocation);
-    wire::put_byte(out, at + 4, leg.protocol);
+    let mut row = [0u8; 250];
+    wire::put_u32(&mut row, 0, invocation);
+    wire::put_byte(&mut row, 4, leg.protocol);
     put_keys(
-        out,
-        at + 5,
+        &mut row,
+        5,
         keys,
         program,
         leg.pool,
@@ -151,15 +153,16 @@ pub fn put_leg<'a>(
         leg.input,
         leg.output,
     );
-    put_side(out, at + 165, spent, keys, leg.paired, leg.first);
-    put_side(out, at + 198, bought, keys, leg.paired, leg.second);
+    put_side(&mut row, 165, spent, keys, leg.paired, leg.first);
+    put_side(&mut row, 198, bought, keys, leg.paired, leg.second);
     put_end(
-        out,
-        at + 231,
+        &mut row,
+        231,
         leg.exact,
         leg.amount,
         leg.threshold,
         leg.mode,
         graduated(leg.protocol, keys, leg.pool, pools),
     );
+    wire::put(out, at, &row);
 }
