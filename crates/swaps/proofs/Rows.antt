@@ -1,6 +1,6 @@
 -- Rows: how long their fields are, and the search among graduated pools.
 -- Assumes nothing.
-use mathlib.Core.Path.{_≡_, refl}
+use mathlib.Core.Path.{_≡_, refl, sym, _∙_}
 use mathlib.Core.Bool.{Bool, true, false, cond, _&&_}
 use mathlib.Core.List.{List, [], _∷_, _++_}
 use mathlib.Core.Option.{none, some}
@@ -12,7 +12,7 @@ use lib.ListN.{length, take, drop, set, length-append}
 use lib.Seq.{sets}
 use Rattle.wire.specs.Le.{leBytes}
 use Rattle.wire.specs.Same.{same, same-true}
-use Rattle.wire.specs.Sets.{sets-append}
+use Rattle.wire.specs.Sets.{sets-append, sets-whole}
 use Rattle.wire.proofs.Laws.{leBytes-length}
 use Rattle.ids.specs.Keys.{Key, zeroKey, isZero, keyOf}
 use Rattle.ids.specs.Mints.{isMint, mintOf, mintField}
@@ -54,37 +54,13 @@ unfolding keyBytes
 keys-length a b c d e ha hb hc hd he = rw (length-append, length-append, length-append, length-append, ha, hb, hc, hd, he)
 
 -- fields of 4, 1, 160, 33 and 33 bytes, and the rest, stored one after the other
-fields-in : (out : List ℕ) (at i p : ℕ) (k m n e : List ℕ) → length k ≡ 160 → length m ≡ 33 → length n ≡ 33
-    → sets (sets (sets (sets (set (sets out at (leBytes 4 i)) (at + 4) p) (at + 5) k) (at + 165) m) (at + 198) n) (at + 231) e
-    ≡ sets out at (leBytes 4 i ++ (p ∷ []) ++ k ++ m ++ n ++ e)
-fields-in out at i p k m n e hk hm hn = simp (sets-append, length-append, leBytes-length, hk, hm, hn)
-
--- a leg's row, stored field by field
-pub row-in : (out : List ℕ) (at i : ℕ) (ks : List ℕ) (program : ℕ) (spent bought : List ℕ) (pools : List Key) (s : Swap)
-    → sets
-    (sets
-    (sets
-    (sets (set (sets out at (leBytes 4 i)) (at + 4) (s .protocol)) (at + 5)
-    (keyBytes (keyOf ks program) (keyOf ks (s .pool)) (keyOf ks (s .trader)) (keyOf ks (s .input)) (keyOf ks (s .output))))
-    (at + 165) (mintField (orElse (mintOf spent) (explicit (s .paired) (keyOf ks (s .first))))))
-    (at + 198) (mintField (orElse (mintOf bought) (explicit (s .paired) (keyOf ks (s .second))))))
-    (at + 231) (endBytes (s .exact) (s .amount) (s .threshold) (s .mode) (eqb (s .protocol) 3 && contains pools (keyOf ks (s .pool))))
-    ≡ sets out at (legRow i (keyOf ks program) (legWith (keyOf ks) (mintOf spent) (mintOf bought) pools s))
-unfolding legRow
-row-in out at i ks program spent bought pools s =
-    let l = key-length ks in
-    fields-in out at i (s .protocol)
-    (keyBytes (keyOf ks program) (keyOf ks (s .pool)) (keyOf ks (s .trader)) (keyOf ks (s .input)) (keyOf ks (s .output)))
-    (mintField (orElse (mintOf spent) (explicit (s .paired) (keyOf ks (s .first)))))
-    (mintField (orElse (mintOf bought) (explicit (s .paired) (keyOf ks (s .second)))))
-    (endBytes (s .exact) (s .amount) (s .threshold) (s .mode) (eqb (s .protocol) 3 && contains pools (keyOf ks (s .pool))))
-    (keys-length (keyOf ks program) (keyOf ks (s .pool)) (keyOf ks (s .trader)) (keyOf ks (s .input)) (keyOf ks (s .output))
-    (l program) (l (s .pool)) (l (s .trader)) (l (s .input)) (l (s .output)))
-    (side-length spent (s .paired) (keyOf ks (s .first)) (l (s .first)))
-    (side-length bought (s .paired) (keyOf ks (s .second)) (l (s .second)))
+fields-in : (l : List ℕ) (i p : ℕ) (k m n e : List ℕ) → length k ≡ 160 → length m ≡ 33 → length n ≡ 33
+    → sets (sets (sets (sets (set (sets l 0 (leBytes 4 i)) 4 p) 5 k) 165 m) 198 n) 231 e
+    ≡ sets l 0 (leBytes 4 i ++ (p ∷ []) ++ k ++ m ++ n ++ e)
+fields-in l i p k m n e hk hm hn = simp (sets-append, length-append, leBytes-length, hk, hm, hn)
 
 -- a leg's row has 250 bytes
-pub row-length : (i : ℕ) (ks : List ℕ) (program : ℕ) (spent bought : List ℕ) (pools : List Key) (s : Swap)
+row-length : (i : ℕ) (ks : List ℕ) (program : ℕ) (spent bought : List ℕ) (pools : List Key) (s : Swap)
     → length (legRow i (keyOf ks program) (legWith (keyOf ks) (mintOf spent) (mintOf bought) pools s)) ≡ 250
 unfolding legRow endBytes
 row-length i ks program spent bought pools s =
@@ -96,6 +72,32 @@ row-length i ks program spent bought pools s =
     let m = side-length spent (s .paired) (keyOf ks (s .first)) (l (s .first)) in
     let n = side-length bought (s .paired) (keyOf ks (s .second)) (l (s .second)) in
     simp (length-append, leBytes-length, k, m, n)
+
+-- its fields, stored one after the other, fill it
+pub row-in : (l : List ℕ) (i : ℕ) (ks : List ℕ) (program : ℕ) (spent bought : List ℕ) (pools : List Key) (s : Swap) → length l ≡ 250
+    → sets
+    (sets
+    (sets
+    (sets (set (sets l 0 (leBytes 4 i)) 4 (s .protocol)) 5
+    (keyBytes (keyOf ks program) (keyOf ks (s .pool)) (keyOf ks (s .trader)) (keyOf ks (s .input)) (keyOf ks (s .output))))
+    165 (mintField (orElse (mintOf spent) (explicit (s .paired) (keyOf ks (s .first))))))
+    198 (mintField (orElse (mintOf bought) (explicit (s .paired) (keyOf ks (s .second))))))
+    231 (endBytes (s .exact) (s .amount) (s .threshold) (s .mode) (eqb (s .protocol) 3 && contains pools (keyOf ks (s .pool))))
+    ≡ legRow i (keyOf ks program) (legWith (keyOf ks) (mintOf spent) (mintOf bought) pools s)
+unfolding legRow
+row-in l i ks program spent bought pools s h =
+    let k = key-length ks in
+    fields-in l i (s .protocol)
+    (keyBytes (keyOf ks program) (keyOf ks (s .pool)) (keyOf ks (s .trader)) (keyOf ks (s .input)) (keyOf ks (s .output)))
+    (mintField (orElse (mintOf spent) (explicit (s .paired) (keyOf ks (s .first)))))
+    (mintField (orElse (mintOf bought) (explicit (s .paired) (keyOf ks (s .second)))))
+    (endBytes (s .exact) (s .amount) (s .threshold) (s .mode) (eqb (s .protocol) 3 && contains pools (keyOf ks (s .pool))))
+    (keys-length (keyOf ks program) (keyOf ks (s .pool)) (keyOf ks (s .trader)) (keyOf ks (s .input)) (keyOf ks (s .output))
+    (k program) (k (s .pool)) (k (s .trader)) (k (s .input)) (k (s .output)))
+    (side-length spent (s .paired) (keyOf ks (s .first)) (k (s .first)))
+    (side-length bought (s .paired) (keyOf ks (s .second)) (k (s .second)))
+    ∙ sets-whole l (legRow i (keyOf ks program) (legWith (keyOf ks) (mintOf spent) (mintOf bought) pools s))
+    (row-length i ks program spent bought pools s ∙ sym h)
 
 module _ (s : List ℕ) (key : Key) (rows i : ℕ) where
   -- the next row is the key

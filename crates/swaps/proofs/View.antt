@@ -1,6 +1,7 @@
 -- A leg in numbers, its accounts as index bytes, is the original's leg: index bytes stand for the keys that `account` gives, since no place passes the accounts.
 -- Assumes nothing.
 use mathlib.Core.Path.{_≡_, refl, sym, ap, _∙_}
+use mathlib.Core.Bool.{false}
 use mathlib.Core.List.{List}
 use mathlib.Core.Option.{Option, none, some}
 use Prim.Native.Nat.{ℕ}
@@ -9,11 +10,12 @@ use lib.ListN.{length}
 use Rattle.ids.specs.Keys.{Key, account}
 use Rattle.ids.specs.Mints.{mintOf}
 use Rattle.ids.specs.declared.Id.{Id}
+use Rattle.ids.specs.declared.Id.the-variants.{SplToken, Token2022, WrappedSol, ComputeBudget, AssociatedToken, Memo, PumpFun, LaunchLab, PumpSwap, Clmm, Cpmm, AmmV4, Orca, Dlmm, System, Other, Unresolved}
 use Rattle.swaps.specs.declared.Swap.{Swap}
 use Rattle.swaps.specs.declared.Found.{Found}
 use Rattle.swaps.specs.declared.Found.the-variants.{Nothing, Leg}
 use Rattle.swaps.specs.Leg.{legWith, valued}
-use Rattle.swaps.specs.Swap.{byProgram, swap, indexed, legOf}
+use Rattle.swaps.specs.Swap.{trades, byProgram, swap, indexed, legOf}
 use Rattle.swaps.proofs.Among.{Among}
 use Rattle.swaps.proofs.Places.{among}
 
@@ -23,6 +25,31 @@ unfolding valued
 viewed κ μ pools accounts Nothing w = refl
 viewed κ μ pools accounts (Leg s) w =
     simp (lt-ltb _ _ (w .pool), lt-ltb _ _ (w .trader), lt-ltb _ _ (w .input), lt-ltb _ _ (w .output), lt-ltb _ _ (w .first), lt-ltb _ _ (w .second))
+
+-- another program's instruction is no leg
+other : (names : List ℕ) (a : ℕ → Key) (id : Id) (n : ℕ) (d : List ℕ) → trades id ≡ false → byProgram names a id n d ≡ Nothing
+unfolding trades byProgram
+other names a Clmm n d e = cc
+other names a Orca n d e = cc
+other names a Cpmm n d e = cc
+other names a Dlmm n d e = cc
+other names a LaunchLab n d e = cc
+other names a PumpFun n d e = cc
+other names a PumpSwap n d e = cc
+other names a AmmV4 n d e = cc
+other names a SplToken n d e = refl
+other names a Token2022 n d e = refl
+other names a WrappedSol n d e = refl
+other names a ComputeBudget n d e = refl
+other names a AssociatedToken n d e = refl
+other names a Memo n d e = refl
+other names a System n d e = refl
+other names a Other n d e = refl
+other names a Unresolved n d e = refl
+
+-- so `leg` answers nothing
+pub no-trade : (names : List ℕ) (κ : ℕ → Key) (id : Id) (accounts bytes : List ℕ) → trades id ≡ false → legOf names κ id accounts bytes ≡ Nothing
+no-trade names κ id accounts bytes e = ap (indexed accounts) (other names (account κ accounts) id (length accounts) bytes e)
 
 module _ (names : List ℕ) (κ : ℕ → Key) (id : Id) (accounts bytes : List ℕ) (μ : Key → Option Key) (pools : List Key) where
   -- what `leg` answers is `swap`

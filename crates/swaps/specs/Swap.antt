@@ -1,10 +1,13 @@
 -- The original's `swap` as a function on values.
 -- Assumes nothing.
 use Prim.Native.Nat.{ℕ}
+use mathlib.Core.Bool.{Bool, _&&_}
 use mathlib.Core.List.{List}
 use mathlib.Core.Option.{Option}
+use lib.Dec.{leb, ltb}
 use lib.ListN.{length, getD}
 use Rattle.ids.specs.Keys.{Key, account}
+use Rattle.ids.specs.Which.{numberOf}
 use Rattle.ids.specs.declared.Id.{Id}
 use Rattle.ids.specs.declared.Id.the-variants.{SplToken, Token2022, WrappedSol, ComputeBudget, AssociatedToken, Memo, PumpFun, LaunchLab, PumpSwap, Clmm, Cpmm, AmmV4, Orca, Dlmm, System, Other, Unresolved}
 use Rattle.swaps.specs.declared.Found.{Found}
@@ -18,6 +21,10 @@ use Rattle.swaps.specs.PumpFun.{pumpFun}
 use Rattle.swaps.specs.PumpSwap.{pumpSwap}
 use Rattle.swaps.specs.AmmV4.{ammV4}
 use Rattle.swaps.specs.Leg.{RouteLeg, valued}
+
+-- one of the eight protocols' programs, which stand together in the table of ids
+unfoldable pub trades : Id → Bool
+trades id = leb 6 (numberOf id) && ltb (numberOf id) 14
 
 -- the protocol's own function, by the program: names, the instruction's accounts as keys, their number, its data
 unfoldable pub byProgram : List ℕ → (ℕ → Key) → Id → ℕ → List ℕ → Found

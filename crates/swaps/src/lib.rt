@@ -19,7 +19,7 @@ use ids::Id;
 ghost use mathlib.Core.Path.{_≡_};
 ghost use lib.ListN.{length, getD};
 ghost use Rattle.ids.specs.Keys.{keyOf, account};
-ghost use Rattle.swaps.specs.Swap.{byProgram, indexed as indexedOf, legOf};
+ghost use Rattle.swaps.specs.Swap.{trades as tradesOf, byProgram, indexed as indexedOf, legOf};
 
 // A leg in numbers. Accounts are indexes of keys in what `leg` answers, and places among the instruction's accounts in a protocol's own function.
 pub struct Swap {
@@ -41,6 +41,31 @@ pub struct Swap {
 pub enum Found {
     Nothing,
     Leg(Swap),
+}
+
+// Whether a program is one of the eight protocols: no other has a leg, so that its accounts and data need not be read.
+pub fn trades(id: Id) -> bool
+    ensures { λ r. ⌜ r ≡ tradesOf id ⌝ }
+{
+    match id {
+        Id::Clmm => true,
+        Id::Orca => true,
+        Id::Cpmm => true,
+        Id::Dlmm => true,
+        Id::LaunchLab => true,
+        Id::PumpFun => true,
+        Id::PumpSwap => true,
+        Id::AmmV4 => true,
+        Id::SplToken => false,
+        Id::Token2022 => false,
+        Id::WrappedSol => false,
+        Id::ComputeBudget => false,
+        Id::AssociatedToken => false,
+        Id::Memo => false,
+        Id::System => false,
+        Id::Other => false,
+        Id::Unresolved => false,
+    }
 }
 
 // The protocol's own function, by the program.

@@ -4,20 +4,34 @@ ghost use mathlib.Core.Path.{_≡_};
 ghost use mathlib.Core.Bool.{_&&_};
 ghost use lib.Dec.{eqb};
 ghost use lib.Seq.{sets};
+ghost use Rattle.wire.specs.Le.{le};
+ghost use Rattle.wire.specs.Same.{same};
 ghost use Rattle.ids.specs.Keys.{keyOf};
 ghost use Rattle.ids.specs.Mints.{mintOf, mintField};
 ghost use Rattle.swaps.specs.Leg.{contains, explicit, orElse, legWith};
 ghost use Rattle.swaps.specs.Row.{bit as bitOf, keyBytes, endBytes, legRow, side as sideOf, poolsOf};
 
+// Whether a row is the key whose last eight bytes are `last`. Keys that are alike mostly differ there, so that one comparison settles most rows.
+fn is_key(row: &[u8], key: &[u8], last: u64) -> bool
+    requires { ⌜ last ≡ le 8 (now key) 24 ⌝ }
+    ensures { λ r. ⌜ r ≡ same (now (row .entry)) (now (key .entry)) ⌝ }
+{
+    if wire::u64_at(row, 24) != last {
+        return false;
+    }
+    wire::equal(row, key)
+}
+
 // Whether a run of 32-byte rows holds a key.
 fn holds(pools: &[u8], key: &[u8]) -> bool
     ensures { λ r. ⌜ r ≡ contains (poolsOf (now (pools .entry))) (now (key .entry)) ⌝ }
 {
+    let last = wire::u64_at(key, 24);
     let rows = pools.len() / 32;
     let mut i = 0;
     while i < rows {
         let at = i * 32;
-        if wire::equal(&pools[at..at + 32], key) {
+        if is_key(&pools[at..at + 32], key, last) {
             return true;
         }
         i += 1;
@@ -108,7 +122,8 @@ fn put_end(
 }
 
 // The row at `at`: the invocation's number, its program's index, its leg as `leg` answers it, the mints known of the input account and of the output
-// account (32 bytes each, all zero if none is known), and the graduated pools.
+// account (32 bytes each, all zero if none is known), and the graduated pools. It is built in an array of its own, where every field is known to fit, and put
+// in one piece; past the end none is built.
 pub fn put_leg<'a>(
     out: &mut [u8],
     at: usize,
@@ -125,11 +140,12 @@ pub fn put_leg<'a>(
     if out.len() <= at {
         return;
     }
-    wire::put_u32(out, at, invocation);
-    wire::put_byte(out, at + 4, leg.protocol);
+    let mut row = [0u8; 250];
+    wire::put_u32(&mut row, 0, invocation);
+    wire::put_byte(&mut row, 4, leg.protocol);
     put_keys(
-        out,
-        at + 5,
+        &mut row,
+        5,
         keys,
         program,
         leg.pool,
@@ -137,15 +153,16 @@ pub fn put_leg<'a>(
         leg.input,
         leg.output,
     );
-    put_side(out, at + 165, spent, keys, leg.paired, leg.first);
-    put_side(out, at + 198, bought, keys, leg.paired, leg.second);
+    put_side(&mut row, 165, spent, keys, leg.paired, leg.first);
+    put_side(&mut row, 198, bought, keys, leg.paired, leg.second);
     put_end(
-        out,
-        at + 231,
+        &mut row,
+        231,
         leg.exact,
         leg.amount,
         leg.threshold,
         leg.mode,
         graduated(leg.protocol, keys, leg.pool, pools),
     );
+    wire::put(out, at, &row);
 }

@@ -6,15 +6,15 @@ use Rattle.swaps.proofs.leg.Lts as lts
 use Rattle.swaps.proofs.by_program.Reads as by-program-reads
 use Rattle.swaps.proofs.indexed.Reads as indexed-reads
 
--- src/lib.rt:96:23
+-- src/lib.rt:121:23
 by-program-requires : tie.Need-by-program-requires
 by-program-requires c κs = search needs
 
--- src/lib.rt:96:5
+-- src/lib.rt:121:5
 indexed-requires : tie.Need-indexed-requires
 indexed-requires c κs = search needs
 
--- src/lib.rt:93:1
+-- src/lib.rt:118:1
 returns : tie.Need-returns
 returns c = rw (c .indexed .ensures, c .before .by-program .ensures)
 

@@ -8,23 +8,23 @@ use Rattle.swaps.proofs.row.graduated.Lts as lts
 use Rattle.ids.proofs.key.Reads as key-reads
 use Rattle.swaps.proofs.row.holds.Reads as holds-reads
 
--- src/row.rt:33:9
+-- src/row.rt:47:9
 returns : tie.Need-returns
 returns c = simp (ne-eqb _ _ (c .if1 .taken))
 
--- src/row.rt:36:33
+-- src/row.rt:50:33
 slice-aggregate-key : tie.Need-slice-aggregate-key
 slice-aggregate-key c = search needs
 
--- src/row.rt:36:18
+-- src/row.rt:50:18
 key-requires : tie.Need-key-requires
 key-requires c κs = search needs
 
--- src/row.rt:36:5
+-- src/row.rt:50:5
 holds-requires : tie.Need-holds-requires
 holds-requires c κs = search needs
 
--- src/row.rt:29:1
+-- src/row.rt:43:1
 returns-2 : tie.Need-returns-2
 unfolding zeroKey
 returns-2 c = simp (eq-eqb _ _ (c .before .before .before .if1 .left), c .holds .ensures, c .before .key .ensures)
