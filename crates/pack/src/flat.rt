@@ -1,7 +1,7 @@
 // Flattening: the invocations of a pack in execution order, one array for each field.
 //
 // Only groups that are kept and not empty are remembered, and those of one outer instruction are chained, so that the work grows with the pack and not with
-// the number of outer instructions times the number of groups.
+// the number of outer instructions times the number of groups. The arrays that remember them hold 16 bits each, since every call has to zero them.
 ghost use mathlib.Core.Path.{_≡_};
 ghost use mathlib.Core.Bool.{true};
 ghost use mathlib.Core.List.{map};
@@ -56,7 +56,7 @@ fn keeps(s: &[u8], o: usize, g: usize) -> bool
 }
 
 // Where the groups that are remembered start.
-fn kept_places(s: &[u8], o: usize, place: &mut [u32; 1024]) -> usize
+fn kept_places(s: &[u8], o: usize, place: &mut [u16; 1024]) -> usize
     requires { ⌜ (groupsWhole (now s) ≡ true) × (length (keptAt (now s) o) ≤ 1024) × (length (now s) ≤ 61440) ⌝ }
     ensures { λ r. ⌜ (r ≡ length (keptAt (now (s .entry)) o)) × (now (place .exit) ≡ sets (now (place .entry)) 0 (keptAt (now (s .entry)) o)) ⌝ }
 {
@@ -68,14 +68,14 @@ fn kept_places(s: &[u8], o: usize, place: &mut [u32; 1024]) -> usize
         if !keeps(s, o, g) {
             continue;
         }
-        place[n] = g as u32;
+        place[n] = g as u16;
         n += 1;
     }
     n
 }
 
 // Chains the groups of each outer instruction, the last group first.
-fn link(s: &[u8], place: &[u32; 1024], n: usize, next: &mut [u32; 1024], first: &mut [u32; 1024])
+fn link(s: &[u8], place: &[u16; 1024], n: usize, next: &mut [u16; 1024], first: &mut [u16; 1024])
     requires { ⌜ (n ≤ 1024) × (length (now place) ≡ 1024) × (length (now next) ≡ 1024) × (now first ≡ zeros 1024) ⌝ }
     requires { ⌜ ((k : ℕ) → k < n → (getD (now place) k 0 ≤ 61440) × (le 4 (now s) (getD (now place) k 0) < 1024)) ⌝ }
     ensures { λ _. ⌜ ((k : ℕ) → k < n → getD (now (next .exit)) k 0 ≡ nextOf (now (s .entry)) (take n (now (place .entry))) k) × ((i : ℕ) → i < 1024 → getD (now (first .exit)) i 0 ≡ firstFrom (now (s .entry)) i 0 (take n (now (place .entry)))) ⌝ }
@@ -85,7 +85,7 @@ fn link(s: &[u8], place: &[u32; 1024], n: usize, next: &mut [u32; 1024], first: 
         k -= 1;
         let i = wire::u32_at(s, place[k] as usize) as usize;
         next[k] = first[i];
-        first[i] = k as u32 + 1;
+        first[i] = k as u16 + 1;
     }
 }
 
@@ -136,9 +136,9 @@ fn members(
 fn own_groups(
     s: &[u8],
     base: usize,
-    place: &[u32; 1024],
-    next: &[u32; 1024],
-    first: &[u32; 1024],
+    place: &[u16; 1024],
+    next: &[u16; 1024],
+    first: &[u16; 1024],
     i: u32,
     n: usize,
     at: &mut [u32; 1024],
@@ -175,9 +175,9 @@ fn spread(
     base: usize,
     from: usize,
     outs: &[u8],
-    place: &[u32; 1024],
-    next: &[u32; 1024],
-    first: &[u32; 1024],
+    place: &[u16; 1024],
+    next: &[u16; 1024],
+    first: &[u16; 1024],
     at: &mut [u32; 1024],
     outer: &mut [u32; 1024],
     inner: &mut [u32; 1024],
@@ -229,10 +229,10 @@ fn fill(
     let outs = super::section(pack, 2);
     let o = outer_count(outs);
     let s = super::section(pack, 3);
-    let mut place = [0u32; 1024];
+    let mut place = [0u16; 1024];
     let n = kept_places(s, o, &mut place);
-    let mut next = [0u32; 1024];
-    let mut first = [0u32; 1024];
+    let mut next = [0u16; 1024];
+    let mut first = [0u16; 1024];
     link(s, &place, n, &mut next, &mut first);
     let base = super::trailer::start(pack, 3);
     let from = super::trailer::start(pack, 2);
