@@ -1,6 +1,6 @@
 -- An action in numbers is the Rust's action: the accounts that it names are there, and only the acted account's mint is looked at.
 -- Assumes nothing.
-use mathlib.Core.Path.{_≡_, refl, sym, ap, subst, _∙_}
+use mathlib.Core.Path.{_≡_, refl, sym, subst}
 use mathlib.Core.Bool.{Bool, true, false, cond, _&&_, _||_, and-false, false≢true}
 use mathlib.Core.List.{List, [], _∷_}
 use mathlib.Core.Option.{Option, none, some}
@@ -21,7 +21,7 @@ use Rattle.token.specs.Published.{starts}
 use Rattle.ids.specs.Mints.{isMint, mintOf}
 use Rattle.token.proofs.Laws.{there}
 use Rattle.natives.specs.Natives.{isSystem, funds, syncs, closes, asked, allBelow, wrapped, counted, nativeAction}
-use Rattle.natives.specs.Numbers.{valueOf, formOf, heldBy, isNothing, actedOf, actionOf}
+use Rattle.natives.specs.Numbers.{valueOf, formOf, heldBy, isNothing, actedOf, settled, actionOf}
 use Rattle.natives.specs.declared.Native.{Native}
 use Rattle.natives.specs.declared.Native.the-variants.{Nothing, Fund, Sync, Close}
 
@@ -72,10 +72,14 @@ counted-value κ count accounts μ (Close h d a) = go (allBelow count accounts &
     go true = refl
     go false = refl
 
--- the Rust's answer is that of the numbers, for the mint of the account that `acted` tells
+-- the Rust's answer is what counts of the form, for the mint of the account that it acts on
 pub native-is : (κ : ℕ → Key) (count : ℕ) (id : Id) (accounts d : List ℕ) (μ : Key → Option Key) → nativeAction κ count id accounts d μ ≡ valueOf κ (actionOf count id accounts d (μ (κ (actedOf id accounts d))))
-unfolding nativeAction actionOf actedOf
+unfolding nativeAction settled
 native-is κ count id accounts d μ = rw (← form-value κ id accounts d) (counted-value κ count accounts μ (formOf id accounts d))
+
+-- and so for any mint that is handed over
+pub settled-value : (κ : ℕ → Key) (count : ℕ) (id : Id) (accounts d : List ℕ) (m : Option Key) → valueOf κ (settled count (formOf id accounts d) accounts m) ≡ nativeAction κ count id accounts d (λ _. m)
+settled-value κ count id accounts d m = sym (native-is κ count id accounts d (λ _. m))
 
 -- no other program has an action
 pub idle : (κ : ℕ → Key) (count : ℕ) (id : Id) (accounts d : List ℕ) (μ : Key → Option Key) → (isToken id || isSystem id) ≡ false → nativeAction κ count id accounts d μ ≡ none
@@ -115,14 +119,11 @@ module _ (count : ℕ) (l : List ℕ) (i : ℕ) where
   unfolding allBelow
   below-end e = rw (e, drop-length l)
 
-module _ (κ : ℕ → Key) (count : ℕ) (id : Id) (accounts d m : List ℕ) where
-  -- a result that is the numbers' has the value that the Rust gives
-  pub tells : {r : Native} → r ≡ actionOf count id accounts d (mintOf m) → (r ≡ actionOf count id accounts d (mintOf m)) × (valueOf κ r ≡ nativeAction κ count id accounts d (λ _. mintOf m))
-  tells e = (e, ap (valueOf κ) e ∙ sym (native-is κ count id accounts d (λ _. mintOf m)))
-
-  pub no-form : isNothing (formOf id accounts d) ≡ true → Nothing ≡ actionOf count id accounts d (mintOf m)
-  unfolding actionOf
-  no-form e = go (formOf id accounts d) e (allBelow count accounts && wrapped (mintOf m))
+-- three tests leave nothing, and what passes them counts
+module _ (count : ℕ) (asked : Native) (accounts : List ℕ) (m : Option Key) where
+  pub no-form : isNothing asked ≡ true → Nothing ≡ settled count asked accounts m
+  unfolding settled
+  no-form e = go asked e (allBelow count accounts && wrapped m)
     where
       go : (f : Native) → isNothing f ≡ true → (b : Bool) → Nothing ≡ cond b f Nothing
       go Nothing q true = refl
@@ -131,14 +132,14 @@ module _ (κ : ℕ → Key) (count : ℕ) (id : Id) (accounts d m : List ℕ) wh
       go (Sync h) q b = absurd (false≢true q)
       go (Close h s a) q b = absurd (false≢true q)
 
-  pub other-mint : same (idAt 2) m ≡ false → Nothing ≡ actionOf count id accounts d (mintOf m)
-  unfolding actionOf
-  other-mint e = rw (wrapped-mint m, e, and-false)
+  pub other-mint : wrapped m ≡ false → Nothing ≡ settled count asked accounts m
+  unfolding settled
+  other-mint e = rw (e, and-false)
 
-  pub no-key : allBelow count accounts ≡ false → Nothing ≡ actionOf count id accounts d (mintOf m)
-  unfolding actionOf
+  pub no-key : allBelow count accounts ≡ false → Nothing ≡ settled count asked accounts m
+  unfolding settled
   no-key e = rw e
 
-  pub is-form : same (idAt 2) m ≡ true → allBelow count accounts ≡ true → formOf id accounts d ≡ actionOf count id accounts d (mintOf m)
-  unfolding actionOf
-  is-form e f = rw (wrapped-mint m, e, f)
+  pub counts : wrapped m ≡ true → allBelow count accounts ≡ true → asked ≡ settled count asked accounts m
+  unfolding settled
+  counts e f = rw (e, f)

@@ -1,3 +1,4 @@
 pub mod Laws
+pub mod Forms
 pub mod Fields
 pub mod Differences

@@ -4,11 +4,13 @@ use Prim.Native.Nat.{ℕ}
 use mathlib.Core.Bool.{Bool, true, false, cond, _&&_}
 use mathlib.Core.List.{List}
 use mathlib.Core.Option.{Option, none, some}
+use lib.Dec.{eqb}
 use lib.ListN.{length, getD}
 use Rattle.wire.specs.Le.{le}
 use Rattle.ids.specs.declared.Id.{Id}
 use Rattle.ids.specs.Keys.{Key}
-use Rattle.natives.specs.Natives.{Action, fund, sync, close, NativeAction, funds, syncs, closes, allBelow, wrapped}
+use Rattle.token.specs.Programs.{isToken}
+use Rattle.natives.specs.Natives.{Action, fund, sync, close, NativeAction, isSystem, funds, syncs, closes, allBelow, wrapped}
 use Rattle.natives.specs.declared.Native.{Native}
 use Rattle.natives.specs.declared.Native.the-variants.{Nothing, Fund, Sync, Close}
 
@@ -27,7 +29,11 @@ formOf id accounts d =
     (cond (closes id (length accounts) d) (Close (getD accounts 0 0) (getD accounts 1 0) (getD accounts 2 0))
     Nothing))
 
--- whether that is no action
+-- whether an instruction of n bytes can ask for anything: 1 for a token program, 12 for System
+unfoldable pub sizedOf : Id → ℕ → Bool
+sizedOf id n = cond (isToken id) (eqb n 1) (isSystem id && eqb n 12)
+
+-- whether a case is no action
 abbrev pub isNothing : Native → Bool
 isNothing Nothing = true
 isNothing (Fund h s l) = false
@@ -41,9 +47,12 @@ heldBy (Fund h s l) = h
 heldBy (Sync h) = h
 heldBy (Close h d a) = h
 
-unfoldable pub actedOf : Id → List ℕ → List ℕ → ℕ
+abbrev pub actedOf : Id → List ℕ → List ℕ → ℕ
 actedOf id accounts d = heldBy (formOf id accounts d)
 
--- what counts of it, for a key count and the acted account's mint
-unfoldable pub actionOf : ℕ → Id → List ℕ → List ℕ → Option Key → Native
-actionOf count id accounts d m = cond (allBelow count accounts && wrapped m) (formOf id accounts d) Nothing
+-- what counts of what is asked for, by a key count, the accounts and the acted account's mint
+unfoldable pub settled : ℕ → Native → List ℕ → Option Key → Native
+settled count asked accounts m = cond (allBelow count accounts && wrapped m) asked Nothing
+
+abbrev pub actionOf : ℕ → Id → List ℕ → List ℕ → Option Key → Native
+actionOf count id accounts d m = settled count (formOf id accounts d) accounts m

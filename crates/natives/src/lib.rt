@@ -1,18 +1,19 @@
 // Native actions: funding, syncing and closing a wrapped SOL account, and the row of each.
 //
-// Every function is total. The acted account's final mint is handed in: `acted` tells whose it is.
+// Every function is total. `form` tells what an instruction asks for, `held` the account whose final mint decides on it, and `settle`, to which that mint is
+// handed, what counts of it.
 ghost use mathlib.Core.Path.{_≡_};
 ghost use mathlib.Core.Bool.{_&&_, _||_};
 ghost use mathlib.Core.List.{[], _∷_};
-ghost use lib.Dec.{leb, ltb};
+ghost use lib.Dec.{leb};
 ghost use lib.ListN.{length};
 ghost use lib.Seq.{sets};
 ghost use Rattle.wire.specs.Same.{same};
 ghost use Rattle.ids.specs.Keys.{keyOf, keyCount};
 ghost use Rattle.ids.specs.Mints.{mintOf};
 ghost use Rattle.token.specs.Programs.{isToken};
-ghost use Rattle.natives.specs.Natives.{isSystem, funds as fundsOf, allBelow, nativeAction};
-ghost use Rattle.natives.specs.Numbers.{valueOf, formOf, heldBy, isNothing, actedOf, actionOf};
+ghost use Rattle.natives.specs.Natives.{isSystem, funds as fundsOf, allBelow, wrapped};
+ghost use Rattle.natives.specs.Numbers.{valueOf, formOf, sizedOf, heldBy, isNothing, settled};
 ghost use Rattle.natives.specs.Rows.{fieldsOf, rowsOf};
 use ids::Id;
 
@@ -42,6 +43,16 @@ pub fn acts(id: Id) -> bool
     token::token_program(id) || system(id)
 }
 
+// Whether an instruction of that many bytes can be an action, for a caller that has not read it yet.
+pub fn sized(id: Id, len: usize) -> bool
+    ensures { λ r. ⌜ r ≡ sizedOf id len ⌝ }
+{
+    if token::token_program(id) {
+        return len == 1;
+    }
+    system(id) && len == 12
+}
+
 fn funds(id: Id, n: usize, data: &[u8]) -> bool
     ensures { λ r. ⌜ r ≡ fundsOf id n (now («data» .entry)) ⌝ }
 {
@@ -51,8 +62,7 @@ fn funds(id: Id, n: usize, data: &[u8]) -> bool
     if data.len() != 12 {
         return false;
     }
-    let tag = [2u8, 0, 0, 0];
-    if !wire::equal(&data[0..4], &tag) {
+    if wire::u32_at(data, 0) != 2 {
         return false;
     }
     2 <= n
@@ -65,15 +75,17 @@ fn lone(id: Id, tag: u8, n: usize, floor: usize, data: &[u8]) -> bool
     if !token::token_program(id) {
         return false;
     }
-    let want = [tag];
-    if !wire::equal(data, &want) {
+    if data.len() != 1 {
+        return false;
+    }
+    if data[0] != tag {
         return false;
     }
     floor <= n
 }
 
 // What program, accounts and data ask for.
-fn form(id: Id, accounts: &[u8], data: &[u8]) -> Native
+pub fn form(id: Id, accounts: &[u8], data: &[u8]) -> Native
     ensures { λ r. ⌜ r ≡ formOf id (now (accounts .entry)) (now («data» .entry)) ⌝ }
 {
     let n = accounts.len();
@@ -91,7 +103,8 @@ fn form(id: Id, accounts: &[u8], data: &[u8]) -> Native
     Native::Nothing
 }
 
-fn held(native: Native) -> u8
+// The index of the account that is acted on, for its mint to be looked up; 0 where there is none.
+pub fn held(native: Native) -> u8
     ensures { λ r. ⌜ r ≡ heldBy native ⌝ }
 {
     match native {
@@ -100,13 +113,6 @@ fn held(native: Native) -> u8
         Native::Sync(h) => h,
         Native::Close(h, _, _) => h,
     }
-}
-
-// The index of the account that an instruction acts on, for its mint to be looked up; 0 where it acts on none.
-pub fn acted(id: Id, accounts: &[u8], data: &[u8]) -> u8
-    ensures { λ r. ⌜ r ≡ actedOf id (now (accounts .entry)) (now («data» .entry)) ⌝ }
-{
-    held(form(id, accounts, data))
 }
 
 fn nothing(native: Native) -> bool
@@ -134,16 +140,24 @@ fn all_below(count: usize, accounts: &[u8]) -> bool
     true
 }
 
-// The action that an instruction is, for the acted account's final mint (32 bytes, zero for none).
-pub fn action(id: Id, keys: &[u8], accounts: &[u8], data: &[u8], mint: &[u8]) -> Native
-    ensures { λ r. ⌜ (r ≡ actionOf (keyCount (now (keys .entry))) id (now (accounts .entry)) (now («data» .entry)) (mintOf (now (mint .entry)))) × (valueOf (keyOf (now (keys .entry))) r ≡ nativeAction (keyOf (now (keys .entry))) (keyCount (now (keys .entry))) id (now (accounts .entry)) (now («data» .entry)) (λ _. mintOf (now (mint .entry)))) ⌝ }
+// Whether a mint is wrapped SOL: row 2 of the ids alone, since the whole table would be built anew wherever it is named.
+fn wrapped_sol(mint: &[u8]) -> bool
+    ensures { λ r. ⌜ r ≡ wrapped (mintOf (now (mint .entry))) ⌝ }
+{
+    let id =
+        *b"\x06\x9b\x88\x57\xfe\xab\x81\x84\xfb\x68\x7f\x63\x46\x18\xc0\x35\xda\xc4\x39\xdc\x1a\xeb\x3b\x55\x98\xa0\xf0\x00\x00\x00\x00\x01";
+    wire::equal(&id, mint)
+}
+
+// What counts of what is asked for, for the acted account's final mint (32 bytes, zero for none).
+pub fn settle(asked: Native, keys: &[u8], accounts: &[u8], mint: &[u8]) -> Native
+    ensures { λ r. ⌜ r ≡ settled (keyCount (now (keys .entry))) asked (now (accounts .entry)) (mintOf (now (mint .entry))) ⌝ }
 {
     // Few instructions have an action's form, so that comes before the mint and the accounts.
-    let asked = form(id, accounts, data);
     if nothing(asked) {
         return Native::Nothing;
     }
-    if !ids::is_id(2, mint) {
+    if !wrapped_sol(mint) {
         return Native::Nothing;
     }
     if !all_below(ids::key_count(keys), accounts) {
