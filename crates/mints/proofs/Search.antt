@@ -6,10 +6,10 @@ use mathlib.Core.List.{List}
 use Prim.Native.Nat.{ℕ, zero, suc, _+_, _-_, _*_, _≤_, _<_}
 use native.Mathlib.Numerals.{add-one}
 use native.Mathlib.Omega.{arith}
-use lib.ListN.{length, getD}
-use lib.Seq.{getD-take, getD-drop}
+use lib.ListN.{length, getD, length-take, length-drop}
+use lib.Seq.{ext-getD, getD-take, getD-drop}
 use lib.Dec.{ltb}
-use Rattle.wire.specs.Same.{same, same-not-at}
+use Rattle.wire.specs.Same.{same, same-refl, same-not-at}
 use Rattle.mints.specs.Cells.{accountAt, Fits, Ends, firstFrom}
 use Rattle.mints.specs.Gather.{rowOf}
 
@@ -17,7 +17,13 @@ module _ (t k : List ℕ) where
   account-byte : (i j : ℕ) → j < 32 → getD (accountAt t i) j 0 ≡ getD t (i * 65 + j) 0
   account-byte i j h = rw (getD-take, getD-drop)
 
-  -- a byte is not the key's
+  -- every byte is the key's
+  pub account-is : (i : ℕ) → i * 65 + 32 ≤ length t → length k ≡ 32 → ((j : ℕ) → j < 32 → getD t (i * 65 + j) 0 ≡ getD k j 0) → same (accountAt t i) k ≡ true
+  account-is i h e f =
+      let l : length (accountAt t i) ≡ 32 = simp (length-take, length-drop) (omega arith) in
+      rw (ext-getD 0 (accountAt t i) k (l ∙ sym e) (λ j lt. account-byte i j (omega arith) ∙ f j (omega arith))) (same-refl k)
+
+  -- a byte is not
   pub account-not : (i j : ℕ) → j < 32 → (getD t (i * 65 + j) 0 ≡ getD k j 0 → ⊥) → same (accountAt t i) k ≡ false
   account-not i j h f = same-not-at (accountAt t i) k j (λ e. f (sym (account-byte i j h) ∙ e))
 

@@ -4,26 +4,13 @@
 // no other function has to look for it.
 ghost use mathlib.Core.Path.{_≡_};
 ghost use mathlib.Core.Bool.{cond};
-ghost use Prim.Native.Nat.{suc, _+_, _*_, _≤_};
+ghost use Prim.Native.Nat.{suc, _*_, _≤_};
 ghost use lib.Dec.{eqb};
 ghost use lib.ListN.{length};
 ghost use lib.Seq.{sets};
-ghost use Rattle.wire.specs.Same.{same};
 ghost use Rattle.ids.specs.Keys.{keyCount, keyOf};
-ghost use Rattle.mints.specs.Cells.{accountAt, firstRow, Ends};
+ghost use Rattle.mints.specs.Cells.{firstRow, Ends};
 ghost use Rattle.mints.specs.Lay.{laid};
-
-// Whether row i holds the key. Accounts made in a row often differ in few bytes; the last one tells most of them apart at once.
-fn holds(table: &[u8], i: usize, key: &[u8]) -> bool
-    requires { ⌜ (length (now key) ≡ 32) × (i * 65 + 32 ≤ length (now table)) ⌝ }
-    ensures { λ r. ⌜ r ≡ same (accountAt (now (table .entry)) i) (now (key .entry)) ⌝ }
-{
-    let at = i * 65;
-    if table[at + 31] != key[31] {
-        return false;
-    }
-    wire::equal(&table[at..at + 32], key)
-}
 
 // The first of the table's rows that holds the key, or `rows` where none does.
 fn find(table: &[u8], rows: usize, key: &[u8]) -> usize
@@ -31,13 +18,26 @@ fn find(table: &[u8], rows: usize, key: &[u8]) -> usize
     ensures { λ r. ⌜ r ≡ firstRow (now (table .entry)) (now (key .entry)) rows ⌝ }
 {
     let mut i = 0;
-    while i < rows {
-        if holds(table, i, key) {
-            return i;
+    let found = 'rows: loop {
+        if rows <= i {
+            break 'rows rows;
         }
-        i += 1;
-    }
-    rows
+        // Accounts made in a row often differ in few bytes; the last one tells most of them apart at once.
+        if table[i * 65 + 31] != key[31] {
+            i += 1;
+            continue 'rows;
+        }
+        let mut j = 0;
+        while j < 32 {
+            if table[i * 65 + j] != key[j] {
+                i += 1;
+                continue 'rows;
+            }
+            j += 1;
+        }
+        break 'rows i;
+    };
+    found
 }
 
 // The same where `ends` tells which last bytes the rows' accounts have: a key with another one is new, and most new keys are found so without a search.
