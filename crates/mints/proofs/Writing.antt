@@ -1,6 +1,6 @@
--- How long rows and mints are as they are written, and one row more.
+-- How long rows and mints are as they are written, one row more, and what stays zero.
 -- Assumes nothing.
-use mathlib.Core.Path.{_≡_, refl}
+use mathlib.Core.Path.{_≡_, refl, sym, ap, _∙_}
 use mathlib.Core.Bool.{Bool, true, false, cond}
 use mathlib.Core.List.{List, [], _∷_, _++_, append-assoc, append-nil}
 use Prim.Native.Nat.{ℕ, zero, suc, _+_, _-_, _*_, _≤_, _<_}
@@ -8,15 +8,17 @@ use native.Mathlib.Numerals.{add-one}
 use native.Mathlib.Omega.{arith}
 use lib.Dec.{ltb}
 use lib.ListN.{length, getD, take, drop, length-append, length-take, length-drop, set, List·getD-eq-default}
-use lib.Seq.{sets, take-suc, getD-take}
+use lib.Seq.{sets, take-suc, getD-take, set-getD}
+use borrow.Author.Tests.{le-ltb}
 use native.Mathlib.Decide.{decLt}
 use mathlib.Core.Logic.{by-cases}
-use Rattle.wire.specs.Sets.{sets-append}
+use Rattle.wire.specs.Sets.{sets-append, sets-after}
+use Rattle.wire.specs.Zeros.{zeros, zeros-at}
 use Rattle.ids.specs.Keys.{zeroKey}
 use Rattle.mints.specs.Cells.{mintAt, stateAt, Fits}
-use Rattle.mints.specs.Order.{rowBytes, rowsBytes, mintOf, mintsTo}
+use Rattle.mints.specs.Order.{rowBytes, rowsBytes, mintOf, mintsTo, Blank}
 
-pub mint-length : (t : List ℕ) (r : ℕ) → r * 65 + 65 ≤ length t → length (mintOf t zeroKey r) ≡ 32
+pub mint-length : (t : List ℕ) (r : ℕ) → r * 65 + 65 ≤ length t → length (mintOf t r) ≡ 32
 unfolding mintOf zeroKey
 mint-length t r h = go (ltb 1 (stateAt t r))
   where
@@ -24,11 +26,28 @@ mint-length t r h = go (ltb 1 (stateAt t r))
     go true = simp (length-take, length-drop) (omega arith)
     go false = refl
 
+-- zeros over zeros change nothing
+sets-blank : (l : List ℕ) (i n : ℕ) → Blank l i → sets l i (zeros n) ≡ l
+sets-blank l i zero f = refl
+sets-blank l i (suc n) f =
+    let e : set l i 0 ≡ l = ap (set l i) (sym (f i (omega arith))) ∙ set-getD l i 0 in
+    ap (λ (m : List ℕ). sets m (suc i) (zeros n)) e ∙ sets-blank l (suc i) n (λ k h. f k (omega arith))
+
+-- a row with no mint leaves zeros as they are
+pub mint-none : (l t : List ℕ) (i r : ℕ) → Blank l i → stateAt t r ≤ 1 → l ≡ sets l i (mintOf t r)
+unfolding mintOf zeroKey
+mint-none l t i r f h = rw (le-ltb 1 (stateAt t r) h) (sym (sets-blank l i 32 f))
+
 -- 32 bytes for each key index
 pub mints-length : (t row : List ℕ) (n : ℕ) → Fits t row → length (mintsTo t row n) ≡ n * 32
 unfolding mintsTo
 mints-length t row zero f = refl
 mints-length t row (suc n) f = rw length-append (omega (arith, mints-length t row n f, mint-length t (getD row n 0) (f n)))
+
+-- what follows the mints that are written over zeros
+pub mints-blank : (out t row : List ℕ) (n : ℕ) → Fits t row → out ≡ zeros (length out) → Blank (sets out 0 (mintsTo t row n)) (n * 32)
+mints-blank out t row n f e k h =
+    sets-after out 0 (mintsTo t row n) k (omega (arith, mints-length t row n f)) ∙ (ap (λ (l : List ℕ). getD l k 0) e ∙ zeros-at (length out) k)
 
 row-length : (t : List ℕ) (r : ℕ) → r * 65 + 65 ≤ length t → length (rowBytes t r) ≡ 65
 unfolding rowBytes

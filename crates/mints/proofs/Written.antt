@@ -144,7 +144,7 @@ module _ {n : ℕ} {α : ℕ → Key} {e : Evidence} {ps : Transfers} {t : Table
           Memᴰ·cast (sym (row-eq (y .3) (y .4) (f .2 ∙ ap (λ (c : Key). markOf (recorded e) ps (final t) c) (y .3)))) (Memᴰ·map (cell v) (mem-sorted v n (y .1) (y .2)))
 
   -- the mint of a row is that of its account
-  pub mint-right : (r : ℕ) → r < n → mintOf v zeroKey r ≡ orZero (mintIn (mintTable (recorded e) ps t) (α r))
+  pub mint-right : (r : ℕ) → r < n → mintOf v r ≡ orZero (mintIn (mintTable (recorded e) ps t) (α r))
   unfolding mintOf orZero
   mint-right r k = rw (table-mint (recorded e) ps t (α r), final-row p s (h .now) r k, has-mint m r k, m .mint r) (go (ltb 1 (stateAt w r)))
     where

@@ -1,6 +1,6 @@
 -- The rows with a mint, ascending by account, and what is written of them.
 -- Assumes nothing.
-use Prim.Native.Nat.{ℕ, zero, suc, _-_, _*_}
+use Prim.Native.Nat.{ℕ, zero, suc, _-_, _*_, _≤_}
 use mathlib.Core.Path.{_≡_}
 use mathlib.Core.Bool.{false, cond}
 use mathlib.Core.List.{List, [], _∷_, _++_, List·Memᴰ}
@@ -37,11 +37,15 @@ unfoldable pub rowsBytes : List ℕ → List ℕ → List ℕ
 rowsBytes t [] = []
 rowsBytes t (r ∷ l) = rowBytes t r ++ rowsBytes t l
 
--- the mint of row r, or the stand-in z where it has none
-unfoldable pub mintOf : List ℕ → Key → ℕ → Key
-mintOf t z r = cond (ltb 1 (stateAt t r)) (mintAt t r) z
+-- the mint of row r, zero where it has none
+unfoldable pub mintOf : List ℕ → ℕ → Key
+mintOf t r = cond (ltb 1 (stateAt t r)) (mintAt t r) zeroKey
 
 -- the mints of the rows of the first n key indexes
 unfoldable pub mintsTo : List ℕ → List ℕ → ℕ → List ℕ
 mintsTo t row zero = []
-mintsTo t row (suc i) = mintsTo t row i ++ mintOf t zeroKey (getD row i 0)
+mintsTo t row (suc i) = mintsTo t row i ++ mintOf t (getD row i 0)
+
+-- nothing but zero from place i on
+abbrev pub Blank : List ℕ → ℕ → Type 0
+Blank l i = (k : ℕ) → i ≤ k → getD l k 0 ≡ 0

@@ -69,6 +69,7 @@ fn publish(
     known: &mut [u8],
 ) -> usize
     requires { ⌜ (rows ≤ 257) × (n ≤ length (now row)) × (n ≤ 256) × (length (now table) ≡ 16705) × Fits (now table) (now row) ⌝ }
+    requires { ⌜ now known ≡ zeros (length (now known)) ⌝ }
     ensures { λ k. ⌜ (k ≡ length (sortTo (now (table .entry)) rows)) × (now (out .exit) ≡ sets (now (out .entry)) 0 (rowsBytes (now (table .entry)) (sortTo (now (table .entry)) rows))) × (now (known .exit) ≡ sets (now (known .entry)) 0 (mintsTo (now (table .entry)) (now (row .entry)) n)) ⌝ }
 {
     let mut order = [0u32; 257];
@@ -94,6 +95,7 @@ fn work(
 ) -> Inferred
     requires { ⌜ (length (now keys) ≤ 8448) × (length (now at) ≤ 1024) ⌝ }
     requires { ⌜ (now table ≡ zeros 16705) × (now row ≡ zeros 256) × (now from ≡ zeros 1024) × (now to ≡ zeros 1024) ⌝ }
+    requires { ⌜ now known ≡ zeros (length (now known)) ⌝ }
     ensures { λ r. ⌜ r ≡ answerOf (inferredIn (now (keys .entry)) (now (balances .entry)) (now (pack .entry)) (now (at .entry))) ⌝ }
     ensures { λ _. ⌜ now (rows .exit) ≡ sets (now (rows .entry)) 0 (rowsOf (inferredIn (now (keys .entry)) (now (balances .entry)) (now (pack .entry)) (now (at .entry)))) ⌝ }
     ensures { λ _. ⌜ now (known .exit) ≡ sets (now (known .entry)) 0 (finalOf (inferredIn (now (keys .entry)) (now (balances .entry)) (now (pack .entry)) (now (at .entry))) (keyOf (now (keys .entry))) (keyCount (now (keys .entry)))) ⌝ }
@@ -138,14 +140,15 @@ pub fn infer(
     pack: &[u8],
     at: &[u32],
     rows: &mut [u8],
-    known: &mut [u8],
+    known: &mut [u8; 8192],
     programs: &mut [u8; 1024],
 ) -> Inferred
     ensures { λ r. ⌜ r ≡ answerOf (inferredIn (take 8448 (now (keys .entry))) (now (balances .entry)) (now (pack .entry)) (take 1024 (now (at .entry)))) ⌝ }
     ensures { λ _. ⌜ now (rows .exit) ≡ sets (now (rows .entry)) 0 (rowsOf (inferredIn (take 8448 (now (keys .entry))) (now (balances .entry)) (now (pack .entry)) (take 1024 (now (at .entry))))) ⌝ }
-    ensures { λ _. ⌜ now (known .exit) ≡ sets (now (known .entry)) 0 (finalOf (inferredIn (take 8448 (now (keys .entry))) (now (balances .entry)) (now (pack .entry)) (take 1024 (now (at .entry)))) (keyOf (take 8448 (now (keys .entry)))) (keyCount (take 8448 (now (keys .entry))))) ⌝ }
+    ensures { λ _. ⌜ now (known .exit) ≡ sets (zeros 8192) 0 (finalOf (inferredIn (take 8448 (now (keys .entry))) (now (balances .entry)) (now (pack .entry)) (take 1024 (now (at .entry)))) (keyOf (take 8448 (now (keys .entry)))) (keyCount (take 8448 (now (keys .entry))))) ⌝ }
     ensures { λ _. ⌜ now (programs .exit) ≡ sets (now (programs .entry)) 0 (programsOf (take 8448 (now (keys .entry))) (now (pack .entry)) (take 1024 (now (at .entry)))) ⌝ }
 {
+    *known = [0u8; 8192];
     let keys = first_keys(keys);
     let at = first_offsets(at);
     let mut table = [0u8; 16705];

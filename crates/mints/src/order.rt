@@ -4,9 +4,10 @@ ghost use Prim.Native.Nat.{suc, _+_, _-_, _*_, _≤_, _<_};
 ghost use mathlib.Core.Bool.{true};
 ghost use lib.ListN.{length, take, drop};
 ghost use lib.Seq.{sets};
+ghost use Rattle.wire.specs.Zeros.{zeros};
 ghost use Rattle.evidence.specs.Keys.{ltKey};
 ghost use Rattle.mints.specs.Cells.{Fits};
-ghost use Rattle.mints.specs.Order.{spotIn, Rising, putIn, sortTo, rowsBytes, mintOf, mintsTo};
+ghost use Rattle.mints.specs.Order.{spotIn, Rising, putIn, sortTo, rowsBytes, mintOf, Blank, mintsTo};
 
 // Whether both have eight bytes from place i on, and the same ones: they are compared at once.
 fn alike(a: &[u8], b: &[u8], i: usize) -> bool
@@ -120,28 +121,25 @@ pub(crate) fn write_rows(table: &[u8], order: &[u32], k: usize, out: &mut [u8])
     }
 }
 
-// The mint of a row, or the stand-in where it has none.
-fn mint_of<'a>(table: &'a [u8], blank: &'a [u8], r: usize) -> &'a [u8]
-    requires { ⌜ (r * 65 + 65 ≤ length (now table)) ⌝ }
-    ensures { λ m. ⌜ now m ≡ mintOf (now (table .entry)) (now (blank .entry)) r ⌝ }
+// Writes the mint of row r to where the mint of key index i stands. A row with none leaves what is there, which is zero.
+fn write_mint(table: &[u8], r: usize, i: usize, out: &mut [u8])
+    requires { ⌜ (r * 65 + 65 ≤ length (now table)) × (i < 65536) × Blank (now out) (i * 32) ⌝ }
+    ensures { λ _. ⌜ now (out .exit) ≡ sets (now (out .entry)) (i * 32) (mintOf (now (table .entry)) r) ⌝ }
 {
     let x = r * 65 + 32;
     if 1 < table[r * 65 + 64] {
-        &table[x..x + 32]
-    } else {
-        blank
+        wire::put(out, i * 32, &table[x..x + 32]);
     }
 }
 
-// Writes the mints of the first n key indexes, zero for those that have none.
+// Writes the mints of the first n key indexes over zeros, so that those that have none stay zero.
 pub(crate) fn write_mints(table: &[u8], row: &[u32], n: usize, out: &mut [u8])
-    requires { ⌜ (n ≤ length (now row)) × (n ≤ 65536) × Fits (now table) (now row) ⌝ }
+    requires { ⌜ (n ≤ length (now row)) × (n ≤ 65536) × Fits (now table) (now row) × (now out ≡ zeros (length (now out))) ⌝ }
     ensures { λ _. ⌜ now (out .exit) ≡ sets (now (out .entry)) 0 (mintsTo (now (table .entry)) (now (row .entry)) n) ⌝ }
 {
-    let blank = [0u8; 32];
     let mut i = 0;
     while i < n {
-        wire::put(out, i * 32, mint_of(table, &blank, row[i] as usize));
+        write_mint(table, row[i] as usize, i, out);
         i += 1;
     }
 }

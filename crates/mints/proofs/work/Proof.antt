@@ -83,7 +83,7 @@ publish-requires c κs =
     let short = c .before .before .before .before .before .before .before .before .before .before .before .before .before .before .before .before .before .before .before .before .before .before .before .before .before .before .before .before .before .before .before .before .before .before .before .before .before .before .before .before .before .before .before .pre .0 .1 in
     let e = c .before .before .before .before .before .before .before .before .before .before .before .before .before .before .before .before .before .before .before .before .before .before .before .before .before .before .before .prepare .ensures .0 .0 in
     let q = c .before .before .before .before .before .before .before .before .before .before .before .before .before .before .before .before .before .before .before .before .before .before .before .before .before .before .before .prepare .ensures .0 in
-    let z = c .before .before .before .before .before .before .before .before .before .before .before .before .before .before .before .before .before .before .before .before .before .before .before .before .before .before .before .before .before .before .before .before .before .before .before .before .before .before .before .before .before .before .before .pre .1 in
+    let z = c .before .before .before .before .before .before .before .before .before .before .before .before .before .before .before .before .before .before .before .before .before .before .before .before .before .before .before .before .before .before .before .before .before .before .before .before .before .before .before .before .before .before .before .pre .1 .0 in
     let x : length (c .before .before .before .before .before .before .before .before .before .before .before .before .before .before .before .before .before .before .before .before .before .before .before .before .before .before .before .prepare .last .1 .1 .1 .1 .0) ≡ length (a .table .now) = c .before .before .before .before .before .before .before .before .before .before .before .before .before .before .before .before .before .before .before .before .before .before .before .before .before .before .before .prepare .kept .1 .1 .1 .1 .0 in
     let y : length (c .before .before .before .before .before .before .before .before .before .before .before .before .before .before .before .run .last .0) ≡ length (c .before .before .before .before .before .before .before .before .before .before .before .before .before .before .before .before .before .before .before .before .before .before .before .before .before .before .before .prepare .last .1 .1 .1 .1 .0) = c .before .before .before .before .before .before .before .before .before .before .before .before .before .before .before .run .kept .0 in
     let d : length (c .before .before .before .before .before .before .before .doubts .last .0) ≡ length (c .before .before .before .before .before .before .before .before .before .before .before .before .before .before .before .run .last .0) = c .before .before .before .before .before .before .before .doubts .kept .0 in
@@ -92,38 +92,41 @@ publish-requires c κs =
     let w : length (c .before .before .before .before .before .before .before .before .before .before .before .before .before .before .before .before .before .before .before .before .before .before .before .before .before .before .before .prepare .last .1 .1 .1 .1 .1 .0) ≡ 256 = r ∙ ap length (z .1) ∙ length-replicate {A = ℕ} 256 0 in
     let n = c .before .before .key-count .ensures in
     let h : Fits (laidOf (a .keys .now) .table) (laidOf (a .keys .now) .row) = laid-fits (a .keys .now) few in (
-      omega (arith, q .2, rows-laid (a .keys .now) few .few),
-      omega (arith, n, w),
-      omega (arith, n),
-      t,
-      λ i. rw (t, q .1) (omega (arith, h i, rows-laid (a .keys .now) few .whole)),
+      (
+        omega (arith, q .2, rows-laid (a .keys .now) few .few),
+        omega (arith, n, w),
+        omega (arith, n),
+        t,
+        λ i. rw (t, q .1) (omega (arith, h i, rows-laid (a .keys .now) few .whole)),
+      ),
+      c .before .before .before .before .before .before .before .before .before .before .before .before .before .before .before .before .before .before .before .before .before .before .before .before .before .before .before .before .before .before .before .before .before .before .before .before .before .before .before .before .before .before .before .pre .1 .1,
     )
 
--- src/lib.rt:84:1
+-- src/lib.rt:83:1
 same-length-5 : tie.Need-same-length-5
 same-length-5 c = search needs
 
--- src/lib.rt:84:1
+-- src/lib.rt:83:1
 same-length-6 : tie.Need-same-length-6
 same-length-6 c = search needs
 
--- src/lib.rt:84:1
+-- src/lib.rt:83:1
 same-length-7 : tie.Need-same-length-7
 same-length-7 c = search needs
 
--- src/lib.rt:84:1
+-- src/lib.rt:83:1
 same-length-8 : tie.Need-same-length-8
 same-length-8 c = search needs
 
--- src/lib.rt:84:1
+-- src/lib.rt:83:1
 same-length-9 : tie.Need-same-length-9
 same-length-9 c = search needs
 
--- src/lib.rt:84:1
+-- src/lib.rt:83:1
 same-length-10 : tie.Need-same-length-10
 same-length-10 c = search needs
 
--- src/lib.rt:84:1
+-- src/lib.rt:83:1
 returns-2 : tie.Need-returns-2
 returns-2 c =
     let a = c .before .before .before .before .before .before .before .before .before .before .before .before .before .before .before .before .before .before .before .before .before .before .before .before .before .before .before .before .before .before .before .before .before .before .before .before .before .before .before .before .before .before .before .before .before .before .before .before .args in

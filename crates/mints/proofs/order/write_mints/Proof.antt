@@ -1,6 +1,5 @@
-use Rattle.mints.proofs.Writing.{mints-length}
+use Rattle.mints.proofs.Writing.{mints-length, mints-blank}
 use Rattle.mints.specs.Order.{mintOf, mintsTo}
-use Rattle.ids.specs.Keys.{zeroKey}
 use Rattle.wire.specs.Sets.{sets-next}
 use lib.Seq.{sets}
 use lib.ListN.{length, getD}
@@ -12,72 +11,63 @@ use Rattle.mints.proofs.order.write_mints.Statement.{statement}
 use Rattle.mints.proofs.order.write_mints.Tie as tie
 use Rattle.mints.proofs.order.write_mints.Reads as reads
 use Rattle.mints.proofs.order.write_mints.Lts as lts
-use Rattle.mints.proofs.order.mint_of.Reads as mint-of-reads
-use Rattle.wire.proofs.put.Reads as put-reads
+use Rattle.mints.proofs.order.write_mint.Reads as write-mint-reads
 
 abbrev Inv-loop : tie.InvT-loop
-Inv-loop table row n out₀ blank i₀ out i = (i ≤ n) × (length out ≡ length out₀) × (out ≡ sets out₀ 0 (mintsTo table row i))
+Inv-loop table row n out₀ i₀ out i = (i ≤ n) × (length out ≡ length out₀) × (out ≡ sets out₀ 0 (mintsTo table row i))
 
 abbrev μ-loop : tie.MeasureT-loop
-μ-loop table row n out₀ blank i₀ out i = n - i
+μ-loop table row n out₀ i₀ out i = n - i
 
--- src/order.rt:111:5
+-- src/order.rt:141:5
 loop-holds : tie.Need-loop-holds Inv-loop μ-loop
 unfolding mintsTo
 loop-holds c = (omega arith, refl, refl)
 
--- src/order.rt:112:24
-mul-put : tie.Need-mul-put Inv-loop μ-loop
-mul-put c = omega arith
+-- src/order.rt:142:27
+mul-write-mint : tie.Need-mul-write-mint Inv-loop μ-loop
+mul-write-mint c = omega arith
 
--- src/order.rt:112:47
-slice-aggregate-mint-of : tie.Need-slice-aggregate-mint-of Inv-loop μ-loop
-slice-aggregate-mint-of c = refl
+-- src/order.rt:142:27
+shared-slice-read-write-mint : tie.Need-shared-slice-read-write-mint Inv-loop μ-loop
+shared-slice-read-write-mint c = omega arith
 
--- src/order.rt:112:55
-mul-mint-of : tie.Need-mul-mint-of Inv-loop μ-loop
-mul-mint-of c = omega arith
+-- src/order.rt:142:27
+cast-write-mint : tie.Need-cast-write-mint Inv-loop μ-loop
+cast-write-mint c = omega (arith, c .shared-slice-known3 .given (c .before .before .loop .i))
 
--- src/order.rt:112:55
-shared-slice-read-mint-of : tie.Need-shared-slice-read-mint-of Inv-loop μ-loop
-shared-slice-read-mint-of c = omega arith
+-- src/order.rt:142:9
+write-mint-requires : tie.Need-write-mint-requires Inv-loop μ-loop
+write-mint-requires c κs =
+    let l = c .before .before .before .loop in
+    let s = c .before .before .before .before .before .before .before in
+    (s .pre .2 (l .i), omega arith, rw (l .inv .2) (mints-blank (s .args .out .now) (s .args .table .now) (s .args .row .now) (l .i) (s .pre .2) (s .pre .3)))
 
--- src/order.rt:112:55
-cast-mint-of : tie.Need-cast-mint-of Inv-loop μ-loop
-cast-mint-of c = omega (arith, c .shared-slice-known3 .given (c .before .before .before .before .loop .i))
-
--- src/order.rt:112:32
-mint-of-requires : tie.Need-mint-of-requires Inv-loop μ-loop
-mint-of-requires c κs = c .before .before .before .before .before .before .before .before .pre .2 (c .before .before .before .before .loop .i)
-
--- src/order.rt:112:9
-put-requires : tie.Need-put-requires Inv-loop μ-loop
-put-requires c κs = tt
-
--- src/order.rt:113:9
+-- src/order.rt:143:9
 add-i : tie.Need-add-i Inv-loop μ-loop
 add-i c = omega arith
 
--- src/order.rt:111:5
+-- src/order.rt:141:5
 loop-less : tie.Need-loop-less Inv-loop μ-loop
 loop-less c = omega arith
 
--- src/order.rt:111:5
+-- src/order.rt:141:5
 loop-again : tie.Need-loop-again Inv-loop μ-loop
-unfolding mintsTo zeroKey
+unfolding mintsTo
 loop-again c =
-    let l = c .before .before .before .before .before .before .before .before .loop in
-    let a = c .before .before .before .before .before .before .before .before .before .before .before .before .args in (
+    let l = c .before .before .before .before .before .before .loop in
+    let s = c .before .before .before .before .before .before .before .before .before .before in
+    let a = s .args in (
       omega arith,
-      c .before .before .put .kept .0 ∙ l .inv .1,
-      c .before .before .put .ensures ∙ rw (l .inv .2, c .before .before .before .mint-of .ensures, add-one (l .i)) (sets-next (a .out .now) 0 (mintsTo (a .table .now) (a .row .now) (l .i)) (mintOf (a .table .now) zeroKey (getD (a .row .now) (l .i) 0)) (l .i * 32) (omega (arith, mints-length (a .table .now) (a .row .now) (l .i) (c .before .before .before .before .before .before .before .before .before .before .before .before .pre .2)))),
+      c .before .before .write-mint .kept .1 .1 .1 .0 ∙ l .inv .1,
+      c .before .before .write-mint .ensures ∙ rw (l .inv .2, add-one (l .i)) (sets-next (a .out .now) 0 (mintsTo (a .table .now) (a .row .now) (l .i)) (mintOf (a .table .now) (getD (a .row .now) (l .i) 0)) (l .i * 32) (omega (arith, mints-length (a .table .now) (a .row .now) (l .i) (s .pre .2)))),
     )
 
--- src/order.rt:105:1
+-- src/order.rt:136:1
 same-length : tie.Need-same-length Inv-loop μ-loop
 same-length c = c .before .loop .inv .1
 
--- src/order.rt:105:1
+-- src/order.rt:136:1
 returns : tie.Need-returns Inv-loop μ-loop
 returns c =
     let l = c .before .loop in
@@ -91,13 +81,10 @@ write-mints-spec =
     Inv-loop
     μ-loop
     loop-holds
-    mul-put
-    slice-aggregate-mint-of
-    mul-mint-of
-    shared-slice-read-mint-of
-    cast-mint-of
-    mint-of-requires
-    put-requires
+    mul-write-mint
+    shared-slice-read-write-mint
+    cast-write-mint
+    write-mint-requires
     add-i
     loop-less
     loop-again
