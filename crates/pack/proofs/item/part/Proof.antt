@@ -1,6 +1,6 @@
--- A part by offset and length: the three ways it can meet the end of the pack.
+-- A part by offset and length: it reaches past the end of the pack, or it does not.
 -- Assumes nothing.
-use Rattle.pack.proofs.Parts.{past, to-end}
+use Rattle.pack.proofs.Parts.{to-end}
 use mathlib.Core.Path.{sym}
 use native.Mathlib.Nat.{add-sub-cancel-left}
 use native.Mathlib.Omega.{arith}
@@ -8,16 +8,8 @@ use borrow.Author.Needs.{needs}
 use Rattle.pack.proofs.item.part.Statement.{statement}
 use Rattle.pack.proofs.item.part.Tie as tie
 
-slice-aggregate-result : tie.Need-slice-aggregate-result
-slice-aggregate-result c = search needs
-
-returns : tie.Need-returns
-returns c =
-    let a = c .before .before .args in
-    sym (past (a .len) (a .from) (a .pack .now) (c .before .if1 .taken))
-
-sub-if2 : tie.Need-sub-if2
-sub-if2 c = search needs
+sub-if1 : tie.Need-sub-if1
+sub-if1 c = search needs
 
 sub-result : tie.Need-sub-result
 sub-result c = search needs
@@ -28,9 +20,9 @@ part-result-start c = search needs
 part-result-end : tie.Need-part-result-end
 part-result-end c = search needs
 
-returns-2 : tie.Need-returns-2
-returns-2 c =
-    let a = c .before .before .before .args in
+returns : tie.Need-returns
+returns c =
+    let a = c .before .before .args in
     sym (to-end (a .len) (a .from) (a .pack .now) (omega arith))
 
 add-result : tie.Need-add-result
@@ -45,22 +37,20 @@ part-result-start-2 c = search needs
 part-result-end-2 : tie.Need-part-result-end-2
 part-result-end-2 c = search needs
 
-returns-3 : tie.Need-returns-3
-returns-3 c = simp add-sub-cancel-left
+returns-2 : tie.Need-returns-2
+returns-2 c = simp add-sub-cancel-left
 
 pub part-spec : {M : Type 1} → statement M
 part-spec =
     tie.close
     (tie.spec
-    slice-aggregate-result
-    returns
-    sub-if2
+    sub-if1
     sub-result
     part-result-start
     part-result-end
-    returns-2
+    returns
     add-result
     sub-result-2
     part-result-start-2
     part-result-end-2
-    returns-3)
+    returns-2)
