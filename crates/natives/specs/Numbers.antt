@@ -10,7 +10,7 @@ use Rattle.wire.specs.Le.{le}
 use Rattle.ids.specs.declared.Id.{Id}
 use Rattle.ids.specs.Keys.{Key}
 use Rattle.token.specs.Programs.{isToken}
-use Rattle.natives.specs.Natives.{Action, fund, sync, close, NativeAction, isSystem, funds, syncs, closes, allBelow, wrapped}
+use Rattle.natives.specs.Natives.{fund, sync, close, NativeAction, isSystem, funds, syncs, closes, allBelow, wrapped}
 use Rattle.natives.specs.declared.Native.{Native}
 use Rattle.natives.specs.declared.Native.the-variants.{Nothing, Fund, Sync, Close}
 

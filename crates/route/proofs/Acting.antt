@@ -1,15 +1,21 @@
 -- What is written of an action that is known by its index bytes.
 -- Assumes nothing.
-use mathlib.Core.Path.{_≡_, refl}
+use mathlib.Core.Path.{_≡_, refl, sym, ap, _∙_}
+use mathlib.Core.Bool.{false}
+use mathlib.Core.Option.{Option, none}
 use mathlib.Core.List.{List}
 use Prim.Native.Nat.{ℕ, _*_, _≤_}
 use native.Mathlib.Omega.{arith}
 use lib.ListN.{length}
 use lib.Seq.{sets}
 use Rattle.ids.specs.Keys.{Key}
+use Rattle.ids.specs.declared.Id.{Id}
 use Rattle.natives.specs.declared.Native.{Native}
 use Rattle.natives.specs.declared.Native.the-variants.{Nothing, Fund, Sync, Close}
-use Rattle.natives.specs.Numbers.{valueOf}
+use Rattle.natives.specs.Natives.{nativeAction}
+use Rattle.natives.specs.Numbers.{valueOf, sizedOf}
+use Rattle.natives.proofs.Forms.{unsized}
+use Rattle.natives.proofs.Laws.{native-is, no-form}
 use Rattle.natives.specs.Rows.{rowBy, rowsOf}
 use Rattle.route.specs.Lay.{placed}
 use Rattle.route.specs.Known.{rowIf}
@@ -20,6 +26,12 @@ count-le Nothing = omega arith
 count-le (Fund h s l) = omega arith
 count-le (Sync h) = omega arith
 count-le (Close h d a) = omega arith
+
+-- an instruction of a size that no action has is none
+pub unasked : (κ : ℕ → Key) (count : ℕ) (id : Id) (accounts d : List ℕ) (μ : Key → Option Key) → sizedOf id (length d) ≡ false → nativeAction κ count id accounts d μ ≡ none
+unasked κ count id accounts d μ e =
+    native-is κ count id accounts d μ
+    ∙ rw (unsized id accounts d e) (ap (valueOf κ) (sym (no-form count Nothing accounts (μ (κ 0)) refl)))
 
 -- κ gives the key of an index
 module _ (κ : ℕ → Key) (i : ℕ) where

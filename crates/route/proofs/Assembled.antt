@@ -18,6 +18,7 @@ use Rattle.subtrees.proofs.Claims.{end-at, inside-at, insides-same}
 use Rattle.route.specs.Arrays.{itemAt, ownFor, ownAt, ownBits, bitsAt, rowAt}
 use Rattle.route.specs.Known.{present, rowIf, numberAt}
 use Rattle.route.specs.Lay.{rowsOf}
+use Rattle.route.specs.Program.{Programs}
 use Rattle.route.specs.Transfers.{transferOf, transferRows}
 use Rattle.route.specs.Legs.{legOf, legRows}
 use Rattle.route.specs.Tables.{item, ownOf, flagsOf, legNumber, invocationAt}
@@ -48,14 +49,15 @@ leg-number true m = one-mul (suc m)
 leg-number false m = zero-mul (suc m)
 
 -- what the arrays hold, over the n instructions at the offsets of pack p; table is the rows of table 0
-pub record Gathered (names ks p : List ℕ) (pools : List Key) (table : List MintRow) (n tests : ℕ) (at outer inner height moved leg own ends inside : List ℕ) : Type 0 where
+pub record Gathered (names ks p : List ℕ) (pools : List Key) (table : List MintRow) (n tests : ℕ) (at programs outer inner height moved leg own ends inside : List ℕ) : Type 0 where
   pub few : n ≤ 1024
+  pub known : Programs ks (itemAt p at) n programs
   pub moves : (i : ℕ) → i < n → getD moved i 0 ≡ length (transferRows ks table i (itemAt p at i))
   pub numbers : (i : ℕ) → i < n → getD leg i 0 ≡ numberAt (legRows names ks pools table) (itemAt p at) i
   pub owns : (i : ℕ) → i < n → getD own i 0 ≡ ownAt moved leg i
   pub blocks : Subtrees (positions outer inner height n) own tests ends inside
 
-module _ (names ks p : List ℕ) (pools : List Key) (table : List MintRow) (n tests : ℕ) (at outer inner height moved leg own ends inside : List ℕ) (g : Gathered names ks p pools table n tests at outer inner height moved leg own ends inside) where
+module _ (names ks p : List ℕ) (pools : List Key) (table : List MintRow) (n tests : ℕ) (at programs outer inner height moved leg own ends inside : List ℕ) (g : Gathered names ks p pools table n tests at programs outer inner height moved leg own ends inside) where
   abbrev xs : List Instruction
   xs = tab (itemAt p at) 0 n
 
@@ -97,11 +99,11 @@ module _ (names ks p : List ℕ) (pools : List Key) (table : List MintRow) (n te
           ∙ ap (λ (l : List ℕ). getD l i 0) (insides-same ps own (map (ownOf names ks pools table) xs) (λ y h. owns-same y h))
           ∙ (tab-at (insideOf ps (map (ownOf names ks pools table) xs)) 0 0 (length ps) i k ∙ rw zero-add)
 
-  flags-is : (i : ℕ) → i < n → bitsAt ks p at inside moved leg i ≡ insideOf ps (map (ownOf names ks pools table) xs) i + flagsOf names ks pools table (item xs i)
+  flags-is : (i : ℕ) → i < n → bitsAt programs inside moved leg i ≡ insideOf ps (map (ownOf names ks pools table) xs) i + flagsOf names ks pools table (item xs i)
   unfolding bitsAt flagsOf
   flags-is i h =
       rw
-      (inside-is i h, here i h, moved-is i h, leg-is i h, flag-bits (present (transferOf ks (itemAt p at i))) (present (legOf names ks pools table (itemAt p at i))) (before i))
+      (inside-is i h, g .known i h, here i h, moved-is i h, leg-is i h, flag-bits (present (transferOf ks (itemAt p at i))) (present (legOf names ks pools table (itemAt p at i))) (before i))
       (add-assoc _ _ _)
 
   number-is : (i : ℕ) → i < n → getD leg i 0 ≡ legNumber names ks pools table xs i
@@ -111,7 +113,7 @@ module _ (names ks p : List ℕ) (pools : List Key) (table : List MintRow) (n te
       ∙ leg-number (present (legOf names ks pools table (itemAt p at i))) (before i)
       ∙ sym (rw (here i h, take-tab (itemAt p at) 0 i n (omega arith)))
 
-  row-is : (i : ℕ) → i < n → rowAt ks p at outer inner height ends inside moved leg i ≡ invocationAt names ks pools table ps xs i
+  row-is : (i : ℕ) → i < n → rowAt programs outer inner height ends inside moved leg i ≡ invocationAt names ks pools table ps xs i
   unfolding rowAt invocationAt place positions positionAt
   row-is i h =
       let k : i < length ps = omega (arith, positions-length outer inner height n) in
@@ -119,5 +121,5 @@ module _ (names ks p : List ℕ) (pools : List Key) (table : List MintRow) (n te
       rw (q, end-at (g .blocks) i k, flags-is i h, number-is i h)
 
   -- so are all of them
-  pub rows-are : tab (rowAt ks p at outer inner height ends inside moved leg) 0 n ≡ tab (invocationAt names ks pools table ps xs) 0 (length xs)
+  pub rows-are : tab (rowAt programs outer inner height ends inside moved leg) 0 n ≡ tab (invocationAt names ks pools table ps xs) 0 (length xs)
   rows-are = tab-same _ _ 0 n (λ k h l. row-is k (omega arith)) ∙ rw (tab-length (itemAt p at) 0 n)

@@ -11,6 +11,7 @@ use lib.Dec.{ltb, eqb}
 use lib.ListN.{length}
 use Rattle.wire.specs.Zeros.{zeros}
 use Rattle.pack.specs.Verdict.{verdict, numberOf, placeOf}
+use Rattle.pack.specs.declared.Verdict.{Verdict}
 use Rattle.route.specs.declared.Answer.{Answer}
 use Rattle.route.specs.Tables.{Tables}
 use Rattle.route.specs.Route.{Lent, lent, Routed, refused, accepted, fitted, passed, tablesIn, judged, route, Leaves}
@@ -56,10 +57,18 @@ fitted-blank t l n =
     refl
     n
 
-pub passed-blank : (o : Option Tables) (l : Lent) → passed o l .answer .number ≢ 0 → Blank l (passed o l)
+passed-blank : (o : Option Tables) (l : Lent) → passed o l .answer .number ≢ 0 → Blank l (passed o l)
 unfolding passed
 passed-blank none l n = refused-blank 7 0 l
 passed-blank (some t) l n = fitted-blank t l n
+
+pub judged-blank : (names p : List ℕ) (l : Lent) (v : Verdict) → judged names p l v .answer .number ≢ 0 → Blank l (judged names p l v)
+unfolding judged
+judged-blank names p l v n = go (eqb (numberOf v) 0) n
+  where
+    go : (b : Bool) → cond b (passed (tablesIn names p) l) (refused (numberOf v) (placeOf v) l) .answer .number ≢ 0 → Blank l (cond b (passed (tablesIn names p) l) (refused (numberOf v) (placeOf v) l))
+    go true m = passed-blank (tablesIn names p) l m
+    go false m = refused-blank (numberOf v) (placeOf v) l
 
 module _ (names p t0 t1 t2 t3 t4 : List ℕ) where
   abbrev here : Lent
@@ -84,20 +93,15 @@ module _ (names p t0 t1 t2 t3 t4 : List ℕ) where
     unfolding route
     no-names h a = leaves-refusal 1 0 (rw (ne-eqb _ _ h)) a
 
-    -- refusals 2 to 6
-    pub no-pack : length names ≡ 88 → numberOf (verdict p) ≢ 0 → r ≡ refusal (numberOf (verdict p)) (placeOf (verdict p)) → Leaves names p t0 t1 t2 t3 t4 r o0 o1 o2 o3 o4
-    unfolding route judged
-    no-pack h n a = leaves-refusal (numberOf (verdict p)) (placeOf (verdict p)) (rw (eq-eqb _ _ h, ne-eqb _ _ n)) a
-
-  -- past those it is `passed`
-  on : length names ≡ 88 → numberOf (verdict p) ≡ 0 → route names p here ≡ passed (tablesIn names p) here
-  unfolding route judged
-  on h n = rw (eq-eqb _ _ h, eq-eqb _ _ n)
+  -- past that it is `judged`
+  on : length names ≡ 88 → route names p here ≡ judged names p here (verdict p)
+  unfolding route
+  on h = rw (eq-eqb _ _ h)
 
   -- the tables have the lengths that they had before they were cleared and filled
-  module _ (h : length names ≡ 88) (n : numberOf (verdict p) ≡ 0) {r : Answer} {c0 c1 c2 c3 c4 o0 o1 o2 o3 o4 : List ℕ} (l0 : length c0 ≡ length t0) (l1 : length c1 ≡ length t1) (l2 : length c2 ≡ length t2) (l3 : length c3 ≡ length t3) (l4 : length c4 ≡ length t4) (f : Filled names p c0 c1 c2 c3 c4 r o0 o1 o2 o3 o4) where
-    same : passed (tablesIn names p) (lent c0 c1 c2 c3 c4) ≡ route names p here
-    same = rw (l0, l1, l2, l3, l4) (sym (on h n))
+  module _ (h : length names ≡ 88) {r : Answer} {c0 c1 c2 c3 c4 o0 o1 o2 o3 o4 : List ℕ} (l0 : length c0 ≡ length t0) (l1 : length c1 ≡ length t1) (l2 : length c2 ≡ length t2) (l3 : length c3 ≡ length t3) (l4 : length c4 ≡ length t4) (f : Filled names p c0 c1 c2 c3 c4 r o0 o1 o2 o3 o4) where
+    same : judged names p (lent c0 c1 c2 c3 c4) (verdict p) ≡ route names p here
+    same = rw (l0, l1, l2, l3, l4) (sym (on h))
 
     -- a success
     pub leaves-success : r .number ≡ 0 → Leaves names p t0 t1 t2 t3 t4 r o0 o1 o2 o3 o4
@@ -111,13 +115,13 @@ module _ (names p t0 t1 t2 t3 t4 : List ℕ) where
           natives = f .natives z ∙ ap (λ (x : Routed). x .natives) same;
         }
 
-    -- refusals 7 and 8, once the tables are cleared again
+    -- refusals 2 to 8, once the tables are cleared again
     pub leaves-cleared : {w0 w1 w2 w3 w4 : List ℕ} → w0 ≡ zeros (length t0) → w1 ≡ zeros (length t1) → w2 ≡ zeros (length t2) → w3 ≡ zeros (length t3) → w4 ≡ zeros (length t4)
         → r .number ≢ 0 → Leaves names p t0 t1 t2 t3 t4 r w0 w1 w2 w3 w4
     leaves-cleared z0 z1 z2 z3 z4 z =
         let a : r ≡ route names p here .answer = f .answer ∙ ap (λ (x : Routed). x .answer) same in
-        let w = on h n in
-        let q = passed-blank (tablesIn names p) here (λ e. z (ap (λ (x : Answer). x .number) a ∙ ap (λ (x : Routed). x .answer .number) w ∙ e)) in
+        let w = on h in
+        let q = judged-blank names p here (verdict p) (λ e. z (ap (λ (x : Answer). x .number) a ∙ ap (λ (x : Routed). x .answer .number) w ∙ e)) in
         record {
           answer = a;
           mints = z0 ∙ sym (q .mints) ∙ ap (λ (x : Routed). x .mints) (sym w);

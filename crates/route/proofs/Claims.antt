@@ -13,7 +13,7 @@ use Rattle.route.specs.declared.Answer.{Answer}
 use Rattle.route.specs.Tables.{Tables}
 use Rattle.route.specs.Route.{Lent, Routed, refused, accepted, fitted, passed, tablesIn, judged, route, Leaves}
 use Rattle.route.specs.Fit.{refusal}
-use Rattle.route.proofs.Called.{Blank, refused-blank, passed-blank}
+use Rattle.route.proofs.Called.{Blank, refused-blank, judged-blank}
 
 -- for every input one answer, and one content of each table
 module _ {names p t0 t1 t2 t3 t4 : List ℕ} {r r′ : Answer} {o0 o1 o2 o3 o4 o0′ o1′ o2′ o3′ o4′ : List ℕ} (x : Leaves names p t0 t1 t2 t3 t4 r o0 o1 o2 o3 o4) (y : Leaves names p t0 t1 t2 t3 t4 r′ o0′ o1′ o2′ o3′ o4′) where
@@ -29,15 +29,12 @@ module _ {names p t0 t1 t2 t3 t4 : List ℕ} {r r′ : Answer} {o0 o1 o2 o3 o4 o
 
 -- every refusal leaves all five tables zero throughout
 pub blank : (names p : List ℕ) (l : Lent) → route names p l .answer .number ≢ 0 → Blank l (route names p l)
-unfolding route judged
-blank names p l = outer (eqb (length names) 88) (eqb (numberOf (verdict p)) 0)
+unfolding route
+blank names p l = go (eqb (length names) 88)
   where
-    outer : (a b : Bool)
-        → cond a (cond b (passed (tablesIn names p) l) (refused (numberOf (verdict p)) (placeOf (verdict p)) l)) (refused 1 0 l) .answer .number ≢ 0
-        → Blank l (cond a (cond b (passed (tablesIn names p) l) (refused (numberOf (verdict p)) (placeOf (verdict p)) l)) (refused 1 0 l))
-    outer true true n = passed-blank (tablesIn names p) l n
-    outer true false n = refused-blank (numberOf (verdict p)) (placeOf (verdict p)) l
-    outer false b n = refused-blank 1 0 l
+    go : (a : Bool) → cond a (judged names p l (verdict p)) (refused 1 0 l) .answer .number ≢ 0 → Blank l (cond a (judged names p l (verdict p)) (refused 1 0 l))
+    go true n = judged-blank names p l (verdict p) n
+    go false n = refused-blank 1 0 l
 
 -- a refusal's answer is its number and its place, and all counts are 0
 fitted-counts : (a b c d e : Bool) (l : Lent) (rest : Routed) → rest .answer .number ≡ 0

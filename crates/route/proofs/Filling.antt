@@ -4,14 +4,16 @@ use mathlib.Core.Path.{_≡_, sym, ap, _∙_}
 use mathlib.Core.Option.{Option, none, some}
 use mathlib.Core.List.{List, [], map}
 use Prim.Native.Nat.{ℕ, _-_, _/_, _%_, _≤_}
-use native.Mathlib.Nat.{sub-zero}
+use native.Mathlib.Nat.{sub-zero, zero-add}
 use native.Mathlib.Omega.{arith}
 use borrow.Author.Tests.{eqb-true}
 use lib.ListN.{length, getD, take, drop, length-replicate}
 use lib.Seq.{sets, length-sets, take-all, length-take-le, getD-take}
 use Rattle.wire.specs.Below.{and-left}
+use Rattle.wire.specs.Sets.{sets-in}
 use Rattle.wire.specs.Zeros.{zeros}
 use Rattle.ids.specs.Keys.{keyOf, keyCount}
+use Rattle.ids.specs.Which.{ofNumber}
 use Rattle.pack.specs.Invocation.{Invocation, instructionAt, positionAt}
 use Rattle.pack.specs.Sections.{sectionOf}
 use Rattle.pack.specs.Items.{keysFill, rowsFill, rows}
@@ -23,11 +25,13 @@ use Rattle.pack.proofs.Good.{passed}
 use Rattle.pack.proofs.Entries.{count-is, entry}
 use Rattle.evidence.specs.MintTable.{Answer}
 use Rattle.mints.specs.Inference.{inferredIn, answerOf, rowsOf as rowsIn, finalOf}
+use Rattle.mints.specs.Programs.{programsOf, programs-length, kept-program}
 use Rattle.mints.specs.Bytes.{tableBytes, mintsOf as finalMints}
 use Rattle.mints.specs.declared.Inferred.{Inferred}
 use Rattle.subtrees.specs.Subtrees.{tab, positions}
 use Rattle.swaps.specs.Row.{poolsOf}
 use Rattle.route.specs.Arrays.{itemAt}
+use Rattle.route.specs.Program.{programOf, Programs}
 use Rattle.route.specs.Tables.{positionsOf, instructionsOf, tablesWith, tablesIf, tables}
 use Rattle.route.specs.Route.{tablesIn}
 use Rattle.route.specs.Order.{mintsIn}
@@ -84,6 +88,23 @@ module _ (p : List ℕ) (n : ℕ) (at outer inner height : List ℕ) (e : number
   unfolding tables tablesIf
   tables-are names q = rw (q, instructions-are, positions-are, ← (pools-are p))
 
+  -- the programs that `infer` keeps, when it is lent section 0 and the first n offsets
+  pub infer-programs : (k0 : List ℕ) → k0 ≡ sectionOf p 0 → (t : List ℕ) {o : List ℕ} → length t ≡ 1024
+      → o ≡ sets t 0 (programsOf (take 8448 k0) p (take 1024 (take (n - 0) (drop 0 at))))
+      → Programs (sectionOf p 0) (itemAt p at) n o
+  infer-programs k0 h0 t {o} w h i l =
+      let c : length (take n at) ≡ n = length-take-le n at (omega (arith, few, at-length)) in
+      let same : o ≡ sets t 0 (programsOf (sectionOf p 0) p (take n at)) =
+      h ∙ rw (h0, keys-all, sub-zero n, take-all 1024 (take n at) (omega (arith, few, c))) in
+      let m : length (programsOf (sectionOf p 0) p (take n at)) ≡ n = programs-length (sectionOf p 0) p (take n at) ∙ c in
+      let kept : getD o i 0 ≡ getD (programsOf (sectionOf p 0) p (take n at)) i 0 =
+      ap (λ (x : List ℕ). getD x i 0) same
+      ∙ ap (λ (k : ℕ). getD (sets t 0 (programsOf (sectionOf p 0) p (take n at))) k 0) (sym (zero-add i))
+      ∙ sets-in t 0 (programsOf (sectionOf p 0) p (take n at)) i (omega (arith, m)) (omega (arith, m, few)) in
+      ap ofNumber kept
+      ∙ kept-program (sectionOf p 0) p (take n at) i (omega (arith, c))
+      ∙ ap (λ (x : ℕ). programOf (sectionOf p 0) (instructionAt p x)) (getD-take n at i 0 l)
+
   -- what `infer` answers and leaves, when it is lent sections 0 and 1 and the first n offsets
   module _ (k0 k1 : List ℕ) (h0 : k0 ≡ sectionOf p 0) (h1 : k1 ≡ sectionOf p 1) {x : Answer} (q : mintsIn p ≡ some x) where
     same-is : inferredIn (take 8448 k0) k1 p (take 1024 (take (n - 0) (drop 0 at))) ≡ some x
@@ -103,3 +124,6 @@ module _ (p : List ℕ) (n : ℕ) (at outer inner height : List ℕ) (e : number
         h
         ∙ ap (λ (y : Option Answer). sets t 0 (finalOf y (keyOf (take 8448 k0)) (keyCount (take 8448 k0)))) same-is
         ∙ ap (λ (k : List ℕ). sets t 0 (finalMints (x .rows) (keyOf k) (keyCount k))) (ap (take 8448) h0 ∙ keys-all)
+
+    pub known-length : {o : List ℕ} → o ≡ sets (zeros 8192) 0 (finalOf (inferredIn (take 8448 k0) k1 p (take 1024 (take (n - 0) (drop 0 at)))) (keyOf (take 8448 k0)) (keyCount (take 8448 k0))) → length o ≡ 8192
+    known-length h = ap length h ∙ length-sets (zeros 8192) 0 (finalOf (inferredIn (take 8448 k0) k1 p (take 1024 (take (n - 0) (drop 0 at)))) (keyOf (take 8448 k0)) (keyCount (take 8448 k0))) ∙ length-replicate {A = ℕ} 8192 0

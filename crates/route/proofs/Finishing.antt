@@ -19,6 +19,7 @@ use Rattle.route.specs.declared.Answer.{Answer}
 use Rattle.route.specs.Arrays.{itemAt, ownAt, rowAt}
 use Rattle.route.specs.Known.{Holds, Fills, Counts, Numbers}
 use Rattle.route.specs.Lay.{placed}
+use Rattle.route.specs.Program.{Programs}
 use Rattle.route.specs.Transfers.{transferRows}
 use Rattle.route.specs.Legs.{legRows}
 use Rattle.route.specs.Actions.{actionRows}
@@ -53,8 +54,9 @@ unfolding filled
 inside-le {ps} {own} s i = rw (s .inside-left) (tab-le (insideOf ps own) (inside-two ps own) 0 (length ps) (1024 - length (insidesOf ps own)) i)
 
 -- the steps, one after the other: transfers, legs, actions, what each invocation has itself, subtrees, the rows of table 1, the answer
-pub record Steps (names p ms at outer inner height : List ℕ) (n room m passes bytes : ℕ) (r : Answer) (t1 t2 t3 t4 o1 o2 o3 o4 moved leg own ends inside : List ℕ) (c2 c3 c4 tests : ℕ) : Type 0 where
+pub record Steps (names p ms at programs outer inner height : List ℕ) (n room m passes bytes : ℕ) (r : Answer) (t1 t2 t3 t4 o1 o2 o3 o4 moved leg own ends inside : List ℕ) (c2 c3 c4 tests : ℕ) : Type 0 where
   pub few : n ≤ 1024
+  pub known : Programs (sectionOf p 0) (itemAt p at) n programs
   pub transfers : Fills ms (sectionOf p 0) (transferRows (sectionOf p 0)) (itemAt p at) 150 n c2 t2 o2
   pub moves : Counts ms (sectionOf p 0) (transferRows (sectionOf p 0)) (itemAt p at) n (zeros 1024) moved
   pub legs : Fills ms (sectionOf p 0) (legRows names (sectionOf p 0) (poolsOf (sectionOf p 4))) (itemAt p at) 250 n c3 t3 o3
@@ -62,7 +64,7 @@ pub record Steps (names p ms at outer inner height : List ℕ) (n room m passes 
   pub actions : Fills ms (sectionOf p 0) (actionRows (sectionOf p 0)) (itemAt p at) 109 n c4 t4 o4
   pub owns : own ≡ sets (zeros 1024) 0 (tab (ownAt moved leg) 0 n)
   pub blocks : Subtrees (positions outer inner height (taken n)) own tests ends inside
-  pub rows : o1 ≡ placed 23 0 (tab (rowAt (sectionOf p 0) p at outer inner height ends inside moved leg) 0 n) t1
+  pub rows : o1 ≡ placed 23 0 (tab (rowAt programs outer inner height ends inside moved leg) 0 n) t1
   pub answer :
       r ≡ fits (record { mints = bytes; invocations = length o1; transfers = length o2; legs = length o3; natives = length o4 }) room (record {
         number = 0;
@@ -80,16 +82,16 @@ pub record Steps (names p ms at outer inner height : List ℕ) (n room m passes 
   pub kept3 : length o3 ≡ length t3
   pub kept4 : length o4 ≡ length t4
 
-pub finished : {names p ms at outer inner height : List ℕ} {n room m passes bytes : ℕ} {r : Answer} {t1 t2 t3 t4 o1 o2 o3 o4 moved leg own ends inside : List ℕ} {c2 c3 c4 tests : ℕ}
-    → Steps names p ms at outer inner height n room m passes bytes r t1 t2 t3 t4 o1 o2 o3 o4 moved leg own ends inside c2 c3 c4 tests
+pub finished : {names p ms at programs outer inner height : List ℕ} {n room m passes bytes : ℕ} {r : Answer} {t1 t2 t3 t4 o1 o2 o3 o4 moved leg own ends inside : List ℕ} {c2 c3 c4 tests : ℕ}
+    → Steps names p ms at programs outer inner height n room m passes bytes r t1 t2 t3 t4 o1 o2 o3 o4 moved leg own ends inside c2 c3 c4 tests
     → (table : List MintRow) → Holds ms (sectionOf p 0) table
     → Finished names p ms at outer inner height n room m passes (record { mints = bytes; invocations = length t1; transfers = length t2; legs = length t3; natives = length t4 }) table r t1 t2 t3 t4 o1 o2 o3 o4
-finished {names} {p} {ms} {at} {outer} {inner} {height} {n} {room} {m} {passes} {bytes} {r} {t1} {t2} {t3} {t4} {o1} {o2} {o3} {o4} {moved} {leg} {own} {ends} {inside} {c2} {c3} {c4} {tests} s table h =
+finished {names} {p} {ms} {at} {programs} {outer} {inner} {height} {n} {room} {m} {passes} {bytes} {r} {t1} {t2} {t3} {t4} {o1} {o2} {o3} {o4} {moved} {leg} {own} {ends} {inside} {c2} {c3} {c4} {tests} s table h =
     record {
       answer =
           s .answer
           ∙ rw (s .kept1, s .kept2, s .kept3, s .kept4, s .transfers .counted table h, s .legs .counted table h, s .actions .counted table h, blocks .tests);
-      invocations = s .rows ∙ rw (rows-are names (sectionOf p 0) p (poolsOf (sectionOf p 4)) table n tests at outer inner height moved leg own ends inside gathered);
+      invocations = s .rows ∙ rw (rows-are names (sectionOf p 0) p (poolsOf (sectionOf p 4)) table n tests at programs outer inner height moved leg own ends inside gathered);
       transfers = s .transfers .rows table h;
       legs = s .legs .rows table h;
       natives = s .actions .rows table h;
@@ -98,10 +100,11 @@ finished {names} {p} {ms} {at} {outer} {inner} {height} {n} {room} {m} {passes} 
     blocks : Subtrees (positions outer inner height n) own tests ends inside
     blocks = rw (taken-all n (s .few)) at (s .blocks)
 
-    gathered : Gathered names (sectionOf p 0) p (poolsOf (sectionOf p 4)) table n tests at outer inner height moved leg own ends inside
+    gathered : Gathered names (sectionOf p 0) p (poolsOf (sectionOf p 4)) table n tests at programs outer inner height moved leg own ends inside
     gathered =
         record {
           few = s .few;
+          known = s .known;
           moves = λ i l. array-at (zeros 1024) moved _ n i (s .moves .each table h) (s .few) l;
           numbers = λ i l. array-at (zeros 1024) leg _ n i (s .numbers .each table h) (s .few) l;
           owns = λ i l. array-at (zeros 1024) own _ n i (s .owns) (s .few) l;

@@ -1,19 +1,23 @@
 -- Laws of the rows of table 1.
 -- Assumes nothing.
-use mathlib.Core.Path.{_≡_, refl, ap}
+use mathlib.Core.Path.{_≡_, refl, sym, ap, _∙_}
 use mathlib.Core.Logic.{_≢_}
+use mathlib.Core.List.{List, [], _∷_, _++_}
 use mathlib.Core.Option.{Option, none, some}
 use mathlib.Core.Bool.{Bool, true, false, cond}
 use Prim.Native.Nat.{ℕ, zero, suc, _+_, _-_, _≤_, _<_}
 use native.Mathlib.Omega.{arith}
 use lib.Dec.{ltb}
-use lib.ListN.{length}
+use lib.ListN.{length, set, length-append}
+use lib.Seq.{sets}
 use Rattle.ids.specs.declared.Id.{Id}
+use Rattle.wire.specs.Le.{leBytes}
+use Rattle.wire.specs.Sets.{sets-next, sets-whole}
 use Rattle.wire.proofs.Laws.{leBytes-length}
-use Rattle.pack.specs.Invocation.{lowered}
+use Rattle.pack.specs.Invocation.{Position, lowered}
 use Rattle.route.specs.Arrays.{ownBits}
 use Rattle.route.specs.Program.{skips, resolved, programBits}
-use Rattle.route.specs.Row.{flagged}
+use Rattle.route.specs.Row.{flagged, invocationRow}
 
 pub positive : {n : ℕ} → n ≢ 0 → 0 < n
 positive h = omega arith
@@ -30,6 +34,32 @@ pub flagged-length : (o : Option ℕ) → length (flagged o) ≡ 5
 unfolding flagged
 flagged-length none = ap suc (leBytes-length 4 0)
 flagged-length (some x) = ap suc (leBytes-length 4 x)
+
+row-length : (p : Position) (end bits leg : ℕ) → length (invocationRow p end bits leg) ≡ 23
+unfolding invocationRow
+row-length p end bits leg = simp (length-append, leBytes-length, flagged-length)
+
+-- the fields, each begun where the one before it ends, fill a row
+pub fields : (l : List ℕ) (p : Position) (end bits leg : ℕ) → length l ≡ 23 → sets (set (sets (sets (sets (sets l 0 (leBytes 4 (p .outer))) 4 (flagged (p .inner))) 9 (flagged (p .height))) 14 (leBytes 4 end)) 18 bits) 19 (leBytes 4 leg) ≡ invocationRow p end bits leg
+unfolding invocationRow
+fields l p end bits leg hl =
+    let o = leBytes 4 (p .outer) in
+    let i = flagged (p .inner) in
+    let h = flagged (p .height) in
+    let e = leBytes 4 end in
+    let ho : length (leBytes 4 (p .outer)) ≡ 4 = leBytes-length 4 (p .outer) in
+    let hi : length (flagged (p .inner)) ≡ 5 = flagged-length (p .inner) in
+    let hh : length (flagged (p .height)) ≡ 5 = flagged-length (p .height) in
+    let he : length (leBytes 4 end) ≡ 4 = leBytes-length 4 end in
+    let told : set (sets l 0 (o ++ i ++ h ++ e)) 18 bits ≡ sets l 0 (o ++ i ++ h ++ e ++ (bits ∷ [])) = sets-next l 0 (o ++ i ++ h ++ e) (bits ∷ []) 18 (simp length-append (omega arith)) in
+    rw (
+      sets-next l 0 o i 4 (omega arith),
+      sets-next l 0 (o ++ i) h 9 (simp length-append (omega arith)),
+      sets-next l 0 (o ++ i ++ h) e 14 (simp length-append (omega arith)),
+      told,
+      sets-next l 0 (o ++ i ++ h ++ e ++ (bits ∷ [])) (leBytes 4 leg) 19 (simp length-append (omega arith)),
+    )
+    (sets-whole l (invocationRow p end bits leg) (row-length p end bits leg ∙ sym hl))
 
 -- the bits of a program, and those of what an invocation has itself, leave room for two more
 pub programBits-le : (id : Id) → programBits id ≤ 12

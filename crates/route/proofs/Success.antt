@@ -1,15 +1,18 @@
 -- From the steps of `fill` to the answer and the tables of `route`.
 -- Assumes nothing.
 use mathlib.Core.Path.{_≡_, sym, ap, _∙_}
+use mathlib.Core.Logic.{_≢_}
 use mathlib.Core.Option.{some}
 use mathlib.Core.List.{List, map}
 use Prim.Native.Nat.{ℕ, _≤_}
 use native.Mathlib.Nat.{zero-mul}
 use native.Mathlib.Omega.{arith}
+use borrow.Author.Tests.{eq-eqb, ne-eqb}
 use lib.ListN.{length, length-map, length-replicate}
 use lib.Seq.{sets}
 use Rattle.wire.specs.Zeros.{zeros}
 use Rattle.pack.specs.Sections.{sectionOf}
+use Rattle.pack.specs.Verdict.{verdict, numberOf, placeOf}
 use Rattle.evidence.specs.MintTable.{MintRow, Answer}
 use Rattle.evidence.specs.Order.{row-right}
 use Rattle.evidence.specs.Chains.{chain-mint, chain-account}
@@ -24,9 +27,10 @@ use Rattle.route.specs.declared.Answer.{Answer as Reply}
 use Rattle.route.specs.Arrays.{itemAt}
 use Rattle.route.specs.Lay.{written}
 use Rattle.route.specs.Tables.{Tables, invocationAt, tablesWith}
-use Rattle.route.specs.Route.{Lent, lent, accepted, fitted, tablesIn, passed}
+use Rattle.route.specs.Route.{Lent, lent, accepted, fitted, tablesIn, passed, refused, judged}
 use Rattle.route.specs.Order.{mintsIn}
 use Rattle.route.specs.Filled.{Finished, Filled}
+use Rattle.route.specs.Fit.{refusal}
 use Rattle.route.proofs.Fitting.{fit-answer, fit-accepted}
 use Rattle.route.proofs.Inferring.{flat-bytes, Sound}
 use Rattle.route.proofs.OrderMints.{made, sized}
@@ -108,14 +112,28 @@ module _ {names p t0 t1 t2 t3 t4 known at outer inner height : List ℕ} {n : �
       ∙ rw (s .zero0, length-replicate)
       (rw (← (flat-bytes (x .rows))) (sym (placed-flat 65 0 (map mintRow (x .rows)) (zeros (length t0)) (mint-rowed (x .rows) (sized p (made p (s .mints)))) ∙ rw zero-mul)))
 
-  pub filled : Filled names p t0 t1 t2 t3 t4 r o0 o1 o2 o3 o4
-  unfolding passed accepted tablesWith
-  filled =
+  pub filled : numberOf (verdict p) ≡ 0 → Filled names p t0 t1 t2 t3 t4 r o0 o1 o2 o3 o4
+  unfolding judged passed accepted tablesWith
+  filled e =
       record {
-        answer = rw (s .tables) answer-is;
-        mints = λ h. rw (s .tables, good h) table-0;
-        invocations = λ h. rw (s .tables, good h) (s .finished .invocations ∙ rw (s .zero1, length-replicate));
-        transfers = λ h. rw (s .tables, good h) (s .finished .transfers ∙ rw (s .zero2, length-replicate));
-        legs = λ h. rw (s .tables, good h) (s .finished .legs ∙ rw (s .zero3, length-replicate));
-        natives = λ h. rw (s .tables, good h) (s .finished .natives ∙ rw (s .zero4, length-replicate));
+        answer = rw (eq-eqb _ 0 e, s .tables) answer-is;
+        mints = λ h. rw (eq-eqb _ 0 e, s .tables, good h) table-0;
+        invocations = λ h. rw (eq-eqb _ 0 e, s .tables, good h) (s .finished .invocations ∙ rw (s .zero1, length-replicate));
+        transfers = λ h. rw (eq-eqb _ 0 e, s .tables, good h) (s .finished .transfers ∙ rw (s .zero2, length-replicate));
+        legs = λ h. rw (eq-eqb _ 0 e, s .tables, good h) (s .finished .legs ∙ rw (s .zero3, length-replicate));
+        natives = λ h. rw (eq-eqb _ 0 e, s .tables, good h) (s .finished .natives ∙ rw (s .zero4, length-replicate));
       }
+
+-- a pack that is refused: the answer is its refusal
+pub refused-pack : {names p t0 t1 t2 t3 t4 : List ℕ} {r : Reply} {o0 o1 o2 o3 o4 : List ℕ} → numberOf (verdict p) ≢ 0 → r ≡ refusal (numberOf (verdict p)) (placeOf (verdict p)) → Filled names p t0 t1 t2 t3 t4 r o0 o1 o2 o3 o4
+unfolding judged refused
+refused-pack {names} {p} {r = r} n a =
+    let no : r .number ≢ 0 = λ e. n (sym (ap (λ (x : Reply). x .number) a) ∙ e) in
+    record {
+      answer = rw (ne-eqb _ 0 n) a;
+      mints = λ e. absurd (no e);
+      invocations = λ e. absurd (no e);
+      transfers = λ e. absurd (no e);
+      legs = λ e. absurd (no e);
+      natives = λ e. absurd (no e);
+    }

@@ -5,7 +5,7 @@ use mathlib.Core.Bool.{cond}
 use mathlib.Core.List.{List}
 use lib.Dec.{ltb}
 use lib.ListN.{getD}
-use Rattle.ids.specs.Which.{programAt}
+use Rattle.ids.specs.Which.{ofNumber}
 use Rattle.pack.specs.Invocation.{Instruction, instructionAt, positionAt}
 use Rattle.subtrees.specs.Subtrees.{bits}
 use Rattle.route.specs.Program.{programBits}
@@ -27,11 +27,11 @@ ownAt moved leg i = ownFor (getD moved i 0) (getD leg i 0)
 unfoldable pub ownBits : ℕ → ℕ → ℕ
 ownBits moved leg = cond (ltb 0 leg) 16 0 + cond (ltb 0 moved) 32 0
 
--- all its bits, over the key section ks
-unfoldable pub bitsAt : List ℕ → List ℕ → List ℕ → List ℕ → List ℕ → List ℕ → ℕ → ℕ
-bitsAt ks p at inside moved leg i = getD inside i 0 + programBits (programAt ks (itemAt p at i .program)) + ownBits (getD moved i 0) (getD leg i 0)
+-- all its bits
+unfoldable pub bitsAt : List ℕ → List ℕ → List ℕ → List ℕ → ℕ → ℕ
+bitsAt programs inside moved leg i = getD inside i 0 + programBits (ofNumber (getD programs i 0)) + ownBits (getD moved i 0) (getD leg i 0)
 
 -- its row
-unfoldable pub rowAt : List ℕ → List ℕ → List ℕ → List ℕ → List ℕ → List ℕ → List ℕ → List ℕ → List ℕ → List ℕ → ℕ → List ℕ
-rowAt ks p at outer inner height ends inside moved leg i =
-    invocationRow (positionAt outer inner height i) (getD ends i 0) (bitsAt ks p at inside moved leg i) (getD leg i 0)
+unfoldable pub rowAt : List ℕ → List ℕ → List ℕ → List ℕ → List ℕ → List ℕ → List ℕ → List ℕ → ℕ → List ℕ
+rowAt programs outer inner height ends inside moved leg i =
+    invocationRow (positionAt outer inner height i) (getD ends i 0) (bitsAt programs inside moved leg i) (getD leg i 0)

@@ -1,10 +1,11 @@
--- What is promised of the tables once the mints are inferred, and of a pack that no refusal of its own meets.
+-- What is promised of the tables once the mints are inferred, and of a whole pack.
 -- Assumes nothing.
 use Prim.Native.Nat.{ℕ}
 use mathlib.Core.List.{List}
 use mathlib.Core.Path.{_≡_}
 use lib.ListN.{length}
 use Rattle.pack.specs.Sections.{sectionOf}
+use Rattle.pack.specs.Verdict.{verdict}
 use Rattle.evidence.specs.MintTable.{MintRow}
 use Rattle.subtrees.specs.Subtrees.{tab, positions, testsOf}
 use Rattle.swaps.specs.Row.{poolsOf}
@@ -16,7 +17,7 @@ use Rattle.route.specs.Transfers.{transferRows}
 use Rattle.route.specs.Legs.{legRows}
 use Rattle.route.specs.Actions.{actionRows}
 use Rattle.route.specs.Tables.{invocationAt}
-use Rattle.route.specs.Route.{Lent, lent, Routed, passed, tablesIn}
+use Rattle.route.specs.Route.{Lent, lent, judged}
 use Rattle.route.specs.Fit.{fits}
 
 -- n invocations by their arrays, with the rows of table 0 behind an array ms of final mints: the answer for m rows of table 0 and that many passes, and tables 1 to 4
@@ -44,11 +45,11 @@ abbrev pub Finishes : List ℕ → List ℕ → List ℕ → List ℕ → List �
 Finishes names p ms at outer inner height n room m passes l r t1 t2 t3 t4 o1 o2 o3 o4 =
     (table : List MintRow) → Holds ms (sectionOf p 0) table → Finished names p ms at outer inner height n room m passes l table r t1 t2 t3 t4 o1 o2 o3 o4
 
--- a pack with a good verdict: the answer, and the tables of a success
+-- a pack: the answer, and the tables of a success
 pub record Filled (names p t0 t1 t2 t3 t4 : List ℕ) (r : Answer) (o0 o1 o2 o3 o4 : List ℕ) : Type 0 where
-  pub answer : r ≡ passed (tablesIn names p) (lent t0 t1 t2 t3 t4) .answer
-  pub mints : r .number ≡ 0 → o0 ≡ passed (tablesIn names p) (lent t0 t1 t2 t3 t4) .mints
-  pub invocations : r .number ≡ 0 → o1 ≡ passed (tablesIn names p) (lent t0 t1 t2 t3 t4) .invocations
-  pub transfers : r .number ≡ 0 → o2 ≡ passed (tablesIn names p) (lent t0 t1 t2 t3 t4) .transfers
-  pub legs : r .number ≡ 0 → o3 ≡ passed (tablesIn names p) (lent t0 t1 t2 t3 t4) .legs
-  pub natives : r .number ≡ 0 → o4 ≡ passed (tablesIn names p) (lent t0 t1 t2 t3 t4) .natives
+  pub answer : r ≡ judged names p (lent t0 t1 t2 t3 t4) (verdict p) .answer
+  pub mints : r .number ≡ 0 → o0 ≡ judged names p (lent t0 t1 t2 t3 t4) (verdict p) .mints
+  pub invocations : r .number ≡ 0 → o1 ≡ judged names p (lent t0 t1 t2 t3 t4) (verdict p) .invocations
+  pub transfers : r .number ≡ 0 → o2 ≡ judged names p (lent t0 t1 t2 t3 t4) (verdict p) .transfers
+  pub legs : r .number ≡ 0 → o3 ≡ judged names p (lent t0 t1 t2 t3 t4) (verdict p) .legs
+  pub natives : r .number ≡ 0 → o4 ≡ judged names p (lent t0 t1 t2 t3 t4) (verdict p) .natives

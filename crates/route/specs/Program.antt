@@ -1,16 +1,22 @@
 -- What an invocation's program tells of it.
 -- Assumes nothing.
-use Prim.Native.Nat.{ℕ, _+_}
+use Prim.Native.Nat.{ℕ, _+_, _<_}
+use mathlib.Core.Path.{_≡_}
 use mathlib.Core.Bool.{Bool, true, false, cond}
 use mathlib.Core.List.{List}
 use Rattle.ids.specs.declared.Id.{Id}
 use Rattle.ids.specs.declared.Id.the-variants.{SplToken, Token2022, WrappedSol, ComputeBudget, AssociatedToken, Memo, PumpFun, LaunchLab, PumpSwap, Clmm, Cpmm, AmmV4, Orca, Dlmm, System, Other, Unresolved}
-use Rattle.ids.specs.Which.{programAt}
+use lib.ListN.{getD}
+use Rattle.ids.specs.Which.{ofNumber, programAt}
 use Rattle.pack.specs.Invocation.{Instruction}
 
 -- the program of an instruction; ks is the key section
 abbrev pub programOf : List ℕ → Instruction → Id
 programOf ks x = programAt ks (x .program)
+
+-- an array holds the number of each program of the first n instructions x
+abbrev pub Programs : List ℕ → (ℕ → Instruction) → ℕ → List ℕ → Type 0
+Programs ks x n programs = (i : ℕ) → i < n → ofNumber (getD programs i 0) ≡ programOf ks (x i)
 
 -- the Rust's `skip_route`: the token programs, System, Compute Budget, Associated Token and Memo
 abbrev pub skips : Id → Bool

@@ -1,14 +1,15 @@
 // Table 4: a row for each invocation that funds, syncs or closes a wrapped SOL account.
 use crate::invocations::wide;
 use crate::transfers::mint;
+use ids::Id;
 use natives::Native;
 ghost use mathlib.Core.Path.{_≡_};
 ghost use Prim.Native.Nat.{_<_, _≤_};
 ghost use lib.ListN.{length};
-ghost use Rattle.ids.specs.Cases.{Cases};
 ghost use Rattle.pack.specs.Invocation.{instructionAt};
 ghost use Rattle.route.specs.Arrays.{itemAt};
 ghost use Rattle.route.specs.Known.{Puts, Fills};
+ghost use Rattle.route.specs.Program.{programOf, Programs};
 ghost use Rattle.route.specs.Actions.{actionRows, actionCount};
 
 // How many actions there are: one, or none.
@@ -26,7 +27,7 @@ fn count(native: Native) -> u8
 // Writes row k for the instruction at an offset, if it is an action. Answers how many rows that is.
 fn put_one(
     keys: &[u8],
-    cases: &[u8; 256],
+    id: Id,
     pack: &[u8],
     at: usize,
     i: u32,
@@ -34,18 +35,20 @@ fn put_one(
     out: &mut [u8],
     k: usize,
 ) -> u8
-    requires { ⌜ (length (now mints) ≡ 8192) × (k < 1024) × Cases (now keys) (now cases) ⌝ }
+    requires { ⌜ (length (now mints) ≡ 8192) × (k < 1024) × (id ≡ programOf (now keys) (instructionAt (now pack) at)) ⌝ }
     ensures { λ r. ⌜ Puts (now (mints .entry)) (now (keys .entry)) (λ table. actionRows (now (keys .entry)) table i (instructionAt (now (pack .entry)) at)) 109 k r (now (out .entry)) (now (out .exit)) ⌝ }
 {
-    let id = ids::cases::program(keys, cases, wide(pack::program(pack, at)));
-    // No other program acts, so its accounts and data are not read.
+    // No other program acts, and few instructions have an action's length: nothing else is read of those.
     if !natives::acts(id) {
         return 0;
     }
-    let accounts = pack::accounts(pack, at);
     let data = pack::data(pack, at);
-    let held = natives::acted(id, accounts, data);
-    let native = natives::action(id, keys, accounts, data, mint(mints, held));
+    if !natives::sized(id, data.len()) {
+        return 0;
+    }
+    let accounts = pack::accounts(pack, at);
+    let asked = natives::form(id, accounts, data);
+    let native = natives::settle(asked, keys, accounts, mint(mints, natives::held(asked)));
     natives::put_row(out, k * 109, i, keys, native);
     count(native)
 }
@@ -53,20 +56,21 @@ fn put_one(
 // The rows of the n invocations. Answers how many there are.
 pub(crate) fn put_rows(
     keys: &[u8],
-    cases: &[u8; 256],
+    programs: &[u8; 1024],
     pack: &[u8],
     n: usize,
     at: &[u32; 1024],
     mints: &[u8],
     out: &mut [u8],
 ) -> usize
-    requires { ⌜ (n ≤ 1024) × (length (now mints) ≡ 8192) × Cases (now keys) (now cases) ⌝ }
+    requires { ⌜ (n ≤ 1024) × (length (now mints) ≡ 8192) × Programs (now keys) (itemAt (now pack) (now at)) n (now programs) ⌝ }
     ensures { λ c. ⌜ Fills (now (mints .entry)) (now (keys .entry)) (actionRows (now (keys .entry))) (itemAt (now (pack .entry)) (now (at .entry))) 109 n c (now (out .entry)) (now (out .exit)) ⌝ }
 {
     let mut k = 0;
     let mut i = 0;
     while i < n {
-        let r = put_one(keys, cases, pack, wide(at[i]), i as u32, mints, out, k);
+        let id = ids::of_number(programs[i]);
+        let r = put_one(keys, id, pack, wide(at[i]), i as u32, mints, out, k);
         k += wide(r as u32);
         i += 1;
     }

@@ -4,8 +4,7 @@ ghost use mathlib.Core.Path.{_≡_};
 ghost use Prim.Native.Nat.{ℕ, _<_, _≤_};
 ghost use lib.ListN.{getD};
 ghost use lib.Seq.{sets};
-ghost use Rattle.ids.specs.Cases.{Cases};
-ghost use Rattle.pack.specs.Invocation.{lowered, positionAt};
+ghost use Rattle.pack.specs.Invocation.{lowered};
 ghost use Rattle.route.specs.Arrays.{ownFor, ownAt, ownBits, bitsAt, rowAt};
 ghost use Rattle.subtrees.specs.Subtrees.{tab};
 ghost use Rattle.route.specs.Lay.{placed};
@@ -13,7 +12,7 @@ ghost use Rattle.route.specs.Program.{programBits};
 ghost use Rattle.route.specs.Row.{flagged as flaggedOf, invocationRow};
 
 // The bits that a program's case gives: 4 where a route passes over it, 8 where it is resolved.
-pub(crate) fn program_bits(id: Id) -> u8
+fn program_bits(id: Id) -> u8
     ensures { λ r. ⌜ r ≡ programBits id ⌝ }
 {
     match id {
@@ -51,7 +50,7 @@ fn put_flagged(out: &mut [u8], at: usize, raised: u64)
     wire::put_u32(out, at + 1, ((raised - 1) % 4294967296) as u32);
 }
 
-// The row of an invocation, by the numbers that its arrays hold.
+// The row of an invocation, by the numbers that its arrays hold. It is put in one piece, so that its room is looked at once.
 fn put_row(
     out: &mut [u8],
     at: usize,
@@ -62,15 +61,16 @@ fn put_row(
     bits: u8,
     leg: u32,
 )
-    requires { ⌜ at < 60000 ⌝ }
     ensures { λ _. ⌜ now (out .exit) ≡ sets (now (out .entry)) at (invocationRow (record { outer = outer; inner = lowered inner; height = lowered height }) end bits leg) ⌝ }
 {
-    wire::put_u32(out, at, outer);
-    put_flagged(out, at + 4, inner as u64);
-    put_flagged(out, at + 9, height);
-    wire::put_u32(out, at + 14, end);
-    wire::put_byte(out, at + 18, bits);
-    wire::put_u32(out, at + 19, leg);
+    let mut row = [0u8; 23];
+    wire::put_u32(&mut row, 0, outer);
+    put_flagged(&mut row, 4, inner as u64);
+    put_flagged(&mut row, 9, height);
+    wire::put_u32(&mut row, 14, end);
+    wire::put_byte(&mut row, 18, bits);
+    wire::put_u32(&mut row, 19, leg);
+    wire::put(out, at, &row);
 }
 
 // The bits of what an invocation has itself.
@@ -126,31 +126,22 @@ pub(crate) fn wide(x: u32) -> usize
 
 // All bits of invocation i.
 fn bits(
-    keys: &[u8],
-    cases: &[u8; 256],
-    pack: &[u8],
-    at: &[u32; 1024],
+    programs: &[u8; 1024],
     inside: &[u8; 1024],
     moved: &[u8; 1024],
     leg: &[u32; 1024],
     i: usize,
 ) -> u8
-    requires { ⌜ (i < 1024) × (getD (now inside) i 0 ≤ 3) × Cases (now keys) (now cases) ⌝ }
-    ensures { λ r. ⌜ r ≡ bitsAt (now (keys .entry)) (now (pack .entry)) (now (at .entry)) (now (inside .entry)) (now (moved .entry)) (now (leg .entry)) i ⌝ }
+    requires { ⌜ (i < 1024) × (getD (now inside) i 0 ≤ 3) ⌝ }
+    ensures { λ r. ⌜ r ≡ bitsAt (now (programs .entry)) (now (inside .entry)) (now (moved .entry)) (now (leg .entry)) i ⌝ }
 {
-    let program = pack::program(pack, wide(at[i]));
-    inside[i]
-        + program_bits(ids::cases::program(keys, cases, program as usize))
-        + own_bits(moved[i], leg[i])
+    inside[i] + program_bits(ids::of_number(programs[i])) + own_bits(moved[i], leg[i])
 }
 
 // The rows of the n invocations.
 pub(crate) fn put_rows(
-    keys: &[u8],
-    cases: &[u8; 256],
-    pack: &[u8],
     n: usize,
-    at: &[u32; 1024],
+    programs: &[u8; 1024],
     outer: &[u32; 1024],
     inner: &[u32; 1024],
     height: &[u64; 1024],
@@ -160,12 +151,12 @@ pub(crate) fn put_rows(
     leg: &[u32; 1024],
     out: &mut [u8],
 )
-    requires { ⌜ (n ≤ 1024) × ((i : ℕ) → getD (now inside) i 0 ≤ 3) × Cases (now keys) (now cases) ⌝ }
-    ensures { λ _. ⌜ now (out .exit) ≡ placed 23 0 (tab (rowAt (now (keys .entry)) (now (pack .entry)) (now (at .entry)) (now (outer .entry)) (now (inner .entry)) (now (height .entry)) (now (ends .entry)) (now (inside .entry)) (now (moved .entry)) (now (leg .entry))) 0 n) (now (out .entry)) ⌝ }
+    requires { ⌜ (n ≤ 1024) × ((i : ℕ) → getD (now inside) i 0 ≤ 3) ⌝ }
+    ensures { λ _. ⌜ now (out .exit) ≡ placed 23 0 (tab (rowAt (now (programs .entry)) (now (outer .entry)) (now (inner .entry)) (now (height .entry)) (now (ends .entry)) (now (inside .entry)) (now (moved .entry)) (now (leg .entry))) 0 n) (now (out .entry)) ⌝ }
 {
     let mut i = 0;
     while i < n {
-        let b = bits(keys, cases, pack, at, inside, moved, leg, i);
+        let b = bits(programs, inside, moved, leg, i);
         put_row(
             out,
             i * 23,

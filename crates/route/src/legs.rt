@@ -1,23 +1,23 @@
 // Table 3: a row for each invocation that is a swap's leg.
-use crate::invocations::program_bits;
 use crate::invocations::wide;
 use crate::transfers::mint;
+use ids::Id;
 use swaps::Found;
 ghost use mathlib.Core.Path.{_≡_};
 ghost use Prim.Native.Nat.{suc, _*_, _<_, _≤_};
 ghost use lib.ListN.{length};
-ghost use Rattle.ids.specs.Cases.{Cases};
 ghost use Rattle.pack.specs.Invocation.{instructionAt};
 ghost use Rattle.swaps.specs.Row.{poolsOf};
 ghost use Rattle.route.specs.Arrays.{itemAt};
 ghost use Rattle.route.specs.Known.{Puts, Fills, Numbers};
 ghost use Rattle.route.specs.Legs.{legRows};
+ghost use Rattle.route.specs.Program.{programOf, Programs};
 
 // Writes row k for the instruction at an offset, if it is a leg. Answers how many rows that is.
 fn put_one<'a>(
     names: &[u8],
     keys: &'a [u8],
-    cases: &[u8; 256],
+    id: Id,
     pack: &[u8],
     pools: &[u8],
     at: usize,
@@ -26,13 +26,11 @@ fn put_one<'a>(
     out: &mut [u8],
     k: usize,
 ) -> u8
-    requires { ⌜ (length (now mints) ≡ 8192) × (k < 1024) × Cases (now keys) (now cases) ⌝ }
+    requires { ⌜ (length (now mints) ≡ 8192) × (k < 1024) × (id ≡ programOf (now keys) (instructionAt (now pack) at)) ⌝ }
     ensures { λ r. ⌜ Puts (now (mints .entry)) (now (keys .entry)) (λ table. legRows (now (names .entry)) (now (keys .entry)) (poolsOf (now (pools .entry))) table i (instructionAt (now (pack .entry)) at)) 250 k r (now (out .entry)) (now (out .exit)) ⌝ }
 {
-    let program = wide(pack::program(pack, at));
-    let id = ids::cases::program(keys, cases, program);
-    // No leg is looked for where the program is not resolved, or a route passes over it.
-    if program_bits(id) != 8 {
+    // No other program has legs, so its accounts and data are not read.
+    if !swaps::trades(id) {
         return 0;
     }
     let found = swaps::leg(
@@ -47,6 +45,7 @@ fn put_one<'a>(
         Found::Leg(leg) => {
             let spent = mint(mints, leg.input);
             let bought = mint(mints, leg.output);
+            let program = wide(pack::program(pack, at));
             swaps::row::put_leg(out, k * 250, i, program, keys, leg, spent, bought, pools);
             1
         }
@@ -68,7 +67,7 @@ fn number(r: u8, k: usize) -> u32
 pub(crate) fn put_rows<'a>(
     names: &[u8],
     keys: &'a [u8],
-    cases: &[u8; 256],
+    programs: &[u8; 1024],
     pack: &[u8],
     pools: &[u8],
     n: usize,
@@ -77,17 +76,18 @@ pub(crate) fn put_rows<'a>(
     out: &mut [u8],
     leg: &mut [u32; 1024],
 ) -> usize
-    requires { ⌜ (n ≤ 1024) × (length (now mints) ≡ 8192) × Cases (now keys) (now cases) ⌝ }
+    requires { ⌜ (n ≤ 1024) × (length (now mints) ≡ 8192) × Programs (now keys) (itemAt (now pack) (now at)) n (now programs) ⌝ }
     ensures { λ c. ⌜ Fills (now (mints .entry)) (now (keys .entry)) (legRows (now (names .entry)) (now (keys .entry)) (poolsOf (now (pools .entry)))) (itemAt (now (pack .entry)) (now (at .entry))) 250 n c (now (out .entry)) (now (out .exit)) ⌝ }
     ensures { λ _. ⌜ Numbers (now (mints .entry)) (now (keys .entry)) (legRows (now (names .entry)) (now (keys .entry)) (poolsOf (now (pools .entry)))) (itemAt (now (pack .entry)) (now (at .entry))) n (now (leg .entry)) (now (leg .exit)) ⌝ }
 {
     let mut k = 0;
     let mut i = 0;
     while i < n {
+        let id = ids::of_number(programs[i]);
         let r = put_one(
             names,
             keys,
-            cases,
+            id,
             pack,
             pools,
             wide(at[i]),

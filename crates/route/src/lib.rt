@@ -57,10 +57,6 @@ pub fn route(
     if names.len() != 88 {
         return refusal(1, 0);
     }
-    let verdict = pack::judge(pack);
-    if pack::number(verdict) != 0 {
-        return refusal(pack::number(verdict), pack::place(verdict));
-    }
     let answer = fill(names, pack, t0, t1, t2, t3, t4);
     if answer.number == 0 {
         return answer;

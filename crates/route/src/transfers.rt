@@ -1,13 +1,14 @@
 // Table 2: a row for each invocation that gives a transfer of tokens.
 use crate::invocations::wide;
+use ids::Id;
 use token::Moved;
 ghost use mathlib.Core.Path.{_≡_};
 ghost use Prim.Native.Nat.{_<_, _≤_};
 ghost use lib.ListN.{length};
-ghost use Rattle.ids.specs.Cases.{Cases};
 ghost use Rattle.pack.specs.Invocation.{instructionAt};
 ghost use Rattle.route.specs.Arrays.{itemAt};
 ghost use Rattle.route.specs.Known.{mintAt, Puts, Fills, Counts};
+ghost use Rattle.route.specs.Program.{programOf, Programs};
 ghost use Rattle.route.specs.Transfers.{transferRows, movedCount};
 
 // The final mint of a key index: 32 bytes, zero where it has none.
@@ -33,7 +34,7 @@ fn count(moved: Moved) -> u8
 // Writes row k for the instruction at an offset, if it gives a transfer. Answers how many rows that is.
 fn put_one(
     keys: &[u8],
-    cases: &[u8; 256],
+    id: Id,
     pack: &[u8],
     at: usize,
     i: u32,
@@ -41,11 +42,9 @@ fn put_one(
     out: &mut [u8],
     k: usize,
 ) -> u8
-    requires { ⌜ (length (now mints) ≡ 8192) × (k < 1024) × Cases (now keys) (now cases) ⌝ }
+    requires { ⌜ (length (now mints) ≡ 8192) × (k < 1024) × (id ≡ programOf (now keys) (instructionAt (now pack) at)) ⌝ }
     ensures { λ r. ⌜ Puts (now (mints .entry)) (now (keys .entry)) (λ table. transferRows (now (keys .entry)) table i (instructionAt (now (pack .entry)) at)) 150 k r (now (out .entry)) (now (out .exit)) ⌝ }
 {
-    let program = pack::program(pack, at);
-    let id = ids::cases::program(keys, cases, program as usize);
     // No other program gives a transfer, so its accounts and data are not read.
     if !token::token_program(id) {
         return 0;
@@ -56,7 +55,7 @@ fn put_one(
         k * 150,
         i,
         keys,
-        program,
+        pack::program(pack, at),
         moved,
         mint(mints, token::source(moved)),
     );
@@ -66,7 +65,7 @@ fn put_one(
 // The rows of the n invocations; `moved` holds how many each has. Answers how many there are.
 pub(crate) fn put_rows(
     keys: &[u8],
-    cases: &[u8; 256],
+    programs: &[u8; 1024],
     pack: &[u8],
     n: usize,
     at: &[u32; 1024],
@@ -74,14 +73,15 @@ pub(crate) fn put_rows(
     out: &mut [u8],
     moved: &mut [u8; 1024],
 ) -> usize
-    requires { ⌜ (n ≤ 1024) × (length (now mints) ≡ 8192) × Cases (now keys) (now cases) ⌝ }
+    requires { ⌜ (n ≤ 1024) × (length (now mints) ≡ 8192) × Programs (now keys) (itemAt (now pack) (now at)) n (now programs) ⌝ }
     ensures { λ c. ⌜ Fills (now (mints .entry)) (now (keys .entry)) (transferRows (now (keys .entry))) (itemAt (now (pack .entry)) (now (at .entry))) 150 n c (now (out .entry)) (now (out .exit)) ⌝ }
     ensures { λ _. ⌜ Counts (now (mints .entry)) (now (keys .entry)) (transferRows (now (keys .entry))) (itemAt (now (pack .entry)) (now (at .entry))) n (now (moved .entry)) (now (moved .exit)) ⌝ }
 {
     let mut k = 0;
     let mut i = 0;
     while i < n {
-        let r = put_one(keys, cases, pack, wide(at[i]), i as u32, mints, out, k);
+        let id = ids::of_number(programs[i]);
+        let r = put_one(keys, id, pack, wide(at[i]), i as u32, mints, out, k);
         moved[i] = r;
         k += wide(r as u32);
         i += 1;

@@ -3,28 +3,37 @@ use Rattle.route.specs.Arrays.{itemAt}
 use Rattle.route.specs.Known.{Puts, Fills}
 use Rattle.route.specs.Actions.{actionRows}
 use lib.ListN.{length}
-use Prim.Native.Nat.{_-_, _≤_}
-use mathlib.Core.Path.{_≡_, refl, _∙_}
+use Prim.Native.Nat.{_-_, _≤_, ℕ}
+use mathlib.Core.Path.{_≡_, refl, _∙_, sym, ap}
 use native.Mathlib.Omega.{arith}
+use Rattle.route.specs.Program.{programOf}
+use Rattle.pack.specs.Invocation.{instructionAt}
 use Rattle.route.proofs.actions.put_rows.Statement.{statement}
 use Rattle.route.proofs.actions.put_rows.Tie as tie
 use Rattle.route.proofs.actions.put_rows.Reads as reads
 use Rattle.route.proofs.actions.put_rows.Lts as lts
 use Rattle.route.proofs.actions.put_one.Reads as put-one-reads
+use Rattle.ids.proofs.of_number.Reads as of-number-reads
 use Rattle.route.proofs.invocations.wide.Reads as wide-reads
 
 abbrev Inv-loop : tie.InvT-loop
-Inv-loop keys cases pack n at mints out₀ k₀ i₀ out k i =
+Inv-loop keys programs pack n at mints out₀ k₀ i₀ out k i =
     (i ≤ n) × (k ≤ i) × (length out ≡ length out₀) × Fills mints keys (actionRows keys) (itemAt pack at) 109 i k out₀ out
 
 abbrev μ-loop : tie.MeasureT-loop
-μ-loop keys cases pack n at mints out₀ k₀ i₀ out k i = n - i
+μ-loop keys programs pack n at mints out₀ k₀ i₀ out k i = n - i
 
 -- src/actions.rt:46:5
 loop-holds : tie.Need-loop-holds Inv-loop μ-loop
 loop-holds c =
     let a = c .before .before .before .before .args in
     (omega arith, omega arith, refl, fills-none (a .mints .now) (a .keys .now) (actionRows (a .keys .now)) (itemAt (a .pack .now) (a .at .now)) 109 (a .out .now))
+
+element-copy-out-of-number : tie.Need-element-copy-out-of-number Inv-loop μ-loop
+element-copy-out-of-number c = omega arith
+
+of-number-requires : tie.Need-of-number-requires Inv-loop μ-loop
+of-number-requires c κs = tt
 
 -- src/actions.rt:47:42
 mul-wide : tie.Need-mul-wide Inv-loop μ-loop
@@ -44,7 +53,13 @@ cast-put-one c = omega arith
 
 -- src/actions.rt:47:13
 put-one-requires : tie.Need-put-one-requires Inv-loop μ-loop
-put-one-requires c κs = (c .before .before .before .before .before .before .before .before .before .pre .1, omega arith, c .before .before .before .before .before .before .before .before .before .pre .2)
+put-one-requires c κs =
+    let l = c .before .before .before .before .before .before .loop in
+    let a = c .before .before .before .before .before .before .before .before .before .before .before .args in (
+      c .before .before .before .before .before .before .before .before .before .before .before .pre .1,
+      omega arith,
+      c .before .before .before .of-number .ensures ∙ c .before .before .before .before .before .before .before .before .before .before .before .pre .2 (l .i) (omega arith) ∙ ap (λ (o : ℕ). programOf (a .keys .now) (instructionAt (a .pack .now) o)) (sym (c .before .wide .ensures)),
+    )
 
 -- src/actions.rt:48:19
 cast-wide : tie.Need-cast-wide Inv-loop μ-loop
@@ -69,8 +84,8 @@ loop-less c = omega arith
 -- src/actions.rt:46:5
 loop-again : tie.Need-loop-again Inv-loop μ-loop
 loop-again c =
-    let l = c .before .before .before .before .before .before .before .before .loop in
-    let a = c .before .before .before .before .before .before .before .before .before .before .before .before .before .args in
+    let l = c .before .before .before .before .before .before .before .before .before .before .loop in
+    let a = c .before .before .before .before .before .before .before .before .before .before .before .before .before .before .before .args in
     let f = actionRows (a .keys .now) in
     let x = itemAt (a .pack .now) (a .at .now) in
     let r = c .before .before .before .put-one .result in
@@ -100,6 +115,8 @@ put-rows-spec =
     Inv-loop
     μ-loop
     loop-holds
+    element-copy-out-of-number
+    of-number-requires
     mul-wide
     element-copy-out-wide
     wide-requires

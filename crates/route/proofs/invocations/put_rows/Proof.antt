@@ -15,11 +15,11 @@ use Rattle.route.proofs.invocations.bits.Reads as bits-reads
 use Rattle.route.proofs.invocations.put_row.Reads as put-row-reads
 
 abbrev Inv-loop : tie.InvT-loop
-Inv-loop keys cases pack n at outer inner height ends inside moved leg out₀ i₀ out i =
-    (i ≤ n) × (length out ≡ length out₀) × (out ≡ placed 23 0 (tab (rowAt keys pack at outer inner height ends inside moved leg) 0 i) out₀)
+Inv-loop n programs outer inner height ends inside moved leg out₀ i₀ out i =
+    (i ≤ n) × (length out ≡ length out₀) × (out ≡ placed 23 0 (tab (rowAt programs outer inner height ends inside moved leg) 0 i) out₀)
 
 abbrev μ-loop : tie.MeasureT-loop
-μ-loop keys cases pack n at outer inner height ends inside moved leg out₀ i₀ out i = n - i
+μ-loop n programs outer inner height ends inside moved leg out₀ i₀ out i = n - i
 
 -- src/invocations.rt:109:5
 loop-holds : tie.Need-loop-holds Inv-loop μ-loop
@@ -28,7 +28,7 @@ loop-holds c = (omega arith, refl, refl)
 
 -- src/invocations.rt:110:13
 bits-requires : tie.Need-bits-requires Inv-loop μ-loop
-bits-requires c κs = (omega arith, c .before .before .before .before .before .pre .1 (c .before .loop .i), c .before .before .before .before .before .pre .2)
+bits-requires c κs = (omega arith, c .before .before .before .pre .1 (c .before .loop .i))
 
 -- src/invocations.rt:111:22
 mul-put-row : tie.Need-mul-put-row Inv-loop μ-loop
@@ -76,7 +76,7 @@ element-copy-out-put-row-5 c = omega arith
 
 -- src/invocations.rt:111:9
 put-row-requires : tie.Need-put-row-requires Inv-loop μ-loop
-put-row-requires c κs = omega arith
+put-row-requires c κs = tt
 
 -- src/invocations.rt:112:9
 add-i : tie.Need-add-i Inv-loop μ-loop
@@ -91,10 +91,10 @@ loop-again : tie.Need-loop-again Inv-loop μ-loop
 unfolding rowAt positionAt
 loop-again c =
     let l = c .before .before .before .before .before .before .before .before .before .before .before .loop in
-    let a = c .before .before .before .before .before .before .before .before .before .before .before .before .before .before .before .args in (
+    let a = c .before .before .before .before .before .before .before .before .before .before .before .before .before .args in (
       omega arith,
       c .before .before .put-row .kept .0 ∙ l .inv .1,
-      placed-more 23 (rowAt (a .keys .now) (a .pack .now) (a .at .now) (a .outer .now) (a .inner .now) (a .height .now) (a .ends .now) (a .inside .now) (a .moved .now) (a .leg .now)) (l .i) (a .out .now) (l .out) _ (l .inv .2)
+      placed-more 23 (rowAt (a .programs .now) (a .outer .now) (a .inner .now) (a .height .now) (a .ends .now) (a .inside .now) (a .moved .now) (a .leg .now)) (l .i) (a .out .now) (l .out) _ (l .inv .2)
           (c .before .before .put-row .ensures ∙ rw (c .before .before .before .before .before .before .before .before .before .bits .ensures)),
     )
 
@@ -106,7 +106,7 @@ same-length c = c .before .loop .inv .1
 returns : tie.Need-returns Inv-loop μ-loop
 returns c =
     let l = c .before .loop in
-    let e : l .i ≡ c .before .before .before .before .before .args .n = omega arith in
+    let e : l .i ≡ c .before .before .before .args .n = omega arith in
     l .inv .2 ∙ rw e
 
 pub put-rows-spec : {M : Type 1} → statement M

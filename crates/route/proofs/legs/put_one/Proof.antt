@@ -1,21 +1,22 @@
+use borrow.Author.Tests.{not-true}
 use Rattle.route.proofs.Legging.{passed-over, leg-swap}
 use Rattle.route.specs.Known.{mintAt, Holds}
 use Rattle.route.specs.Lay.{placed}
 use Rattle.route.specs.Legs.{legRows}
-use Rattle.route.specs.Program.{programOf, programBits}
+use Rattle.route.specs.Program.{programOf}
 use Rattle.swaps.proofs.View.{no-leg, a-leg}
 use Rattle.swaps.specs.declared.Found.the-variants.{Nothing, Leg}
 use Rattle.swaps.specs.Row.{poolsOf}
-use Rattle.swaps.specs.Swap.{swap, legOf as legIn}
+use Rattle.swaps.specs.Swap.{trades, swap, legOf as legIn}
 use Rattle.swaps.specs.Leg.{legWith}
 use Rattle.swaps.specs.declared.Swap.{Swap}
 use Rattle.evidence.specs.MintTable.{MintRow, mintIn}
 use Rattle.pack.specs.Invocation.{Instruction, instructionAt}
-use Rattle.ids.specs.Cases.{case-in}
 use Rattle.ids.specs.Keys.{Key, keyOf}
 use Rattle.ids.specs.Mints.{mintOf}
 use mathlib.Core.List.{List}
 use mathlib.Core.Path.{_≡_, sym, _∙_}
+use mathlib.Core.Bool.{false}
 use Prim.Native.Nat.{ℕ, _<_}
 use mathlib.Core.Option.{some}
 use native.Mathlib.Omega.{arith}
@@ -24,99 +25,95 @@ use Rattle.route.proofs.legs.put_one.Statement.{statement}
 use Rattle.route.proofs.legs.put_one.Tie as tie
 use Rattle.route.proofs.legs.put_one.Reads as reads
 use Rattle.route.proofs.legs.put_one.Lts as lts
-use Rattle.ids.proofs.cases.program.Reads as cases-program-reads
 use Rattle.pack.proofs.accounts.Reads as accounts-reads
 use Rattle.pack.proofs.data.Reads as data-reads
-use Rattle.pack.proofs.program.Reads as item-program-reads
+use Rattle.pack.proofs.program.Reads as program-reads
 use Rattle.route.proofs.invocations.wide.Reads as wide-reads
 use Rattle.route.proofs.transfers.mint.Reads as mint-reads
 use Rattle.swaps.proofs.leg.Reads as leg-reads
 use Rattle.swaps.proofs.row.put_leg.Reads as put-leg-reads
-use Rattle.route.proofs.invocations.program_bits.Reads as program-bits-reads
+use Rattle.swaps.proofs.trades.Reads as trades-reads
 
--- src/legs.rt:29:24
-program-requires : tie.Need-program-requires
-program-requires c κs = search needs
+-- src/legs.rt:33:9
+trades-requires : tie.Need-trades-requires
+trades-requires c κs = search needs
 
--- src/legs.rt:29:9
-wide-requires : tie.Need-wide-requires
-wide-requires c κs = search needs
-
--- src/legs.rt:30:9
-program-requires-2 : tie.Need-program-requires-2
-program-requires-2 c κs = search needs
-
-program-bits-requires : tie.Need-program-bits-requires
-program-bits-requires c κs = search needs
-
+-- src/legs.rt:34:9
 returns : tie.Need-returns
 unfolding legRows placed
 returns c =
-    let a = c .before .before .before .before .before .before .before .before .before .before .before .args in
+    let a = c .before .before .before .before .before .before .before .before .args in
     let x = instructionAt (a .pack .now) (a .at) in
     let ks = a .keys .now in
     let pools = poolsOf (a .pools .now) in
-    let e : programBits (programOf ks x) ≡ 8 → ⊥ =
-    λ z. (c .if1 .taken) ((c .before .program-bits .ensures ∙ rw (c .before .before .program2 .ensures, case-in ks (a .cases .now) (c .before .before .before .wide .result) (c .before .before .before .before .before .before .before .before .before .before .before .pre .2), c .before .before .before .wide .ensures, c .before .before .before .before .program .ensures)) ∙ z) in
+    let e : trades (programOf ks x) ≡ false =
+    rw (← (c .before .before .before .before .before .before .before .before .pre .2)) (sym (c .before .trades .ensures) ∙ not-true (c .before .trades .result) (c .if1 .taken)) in
     record { few = omega arith; counted = λ table h. rw (passed-over (a .names .now) ks pools table x e); rows = λ table h. rw (passed-over (a .names .now) ks pools table x e) }
 
--- src/legs.rt:31:45
+-- src/legs.rt:40:9
 accounts-requires : tie.Need-accounts-requires
 accounts-requires c κs = search needs
 
--- src/legs.rt:31:71
+-- src/legs.rt:41:9
 data-requires : tie.Need-data-requires
 data-requires c κs = search needs
 
--- src/legs.rt:31:9
+-- src/legs.rt:36:9
 leg-requires : tie.Need-leg-requires
 leg-requires c κs = search needs
 
--- src/legs.rt:33:27
+-- src/legs.rt:44:27
 enum-told : tie.Need-enum-told
 enum-told c = search needs
 
--- src/legs.rt:34:20
+-- src/legs.rt:45:20
 enum-known-found : tie.Need-enum-known-found
 enum-known-found c = search needs
 
--- src/legs.rt:35:17
+-- src/legs.rt:46:17
 mint-requires : tie.Need-mint-requires
-mint-requires c κs = c .before .before .before .before .before .before .before .before .before .before .before .before .before .before .before .before .before .pre .0
+mint-requires c κs = search needs
 
--- src/legs.rt:36:17
+-- src/legs.rt:47:17
 mint-requires-2 : tie.Need-mint-requires-2
-mint-requires-2 c κs = c .before .before .before .before .before .before .before .before .before .before .before .before .before .before .before .before .before .before .pre .0
+mint-requires-2 c κs = search needs
 
--- src/legs.rt:37:38
+-- src/legs.rt:48:32
+program-requires : tie.Need-program-requires
+program-requires c κs = search needs
+
+-- src/legs.rt:48:17
+wide-requires : tie.Need-wide-requires
+wide-requires c κs = search needs
+
+-- src/legs.rt:49:38
 mul-put-leg : tie.Need-mul-put-leg
-mul-put-leg c = omega (arith, c .before .before .before .before .before .before .before .before .before .before .before .before .before .before .before .before .before .before .before .before .pre .1)
+mul-put-leg c = omega (arith, c .before .before .before .before .before .before .before .before .before .before .before .before .before .before .before .before .before .before .before .pre .1)
 
--- src/legs.rt:37:13
+-- src/legs.rt:49:13
 put-leg-requires : tie.Need-put-leg-requires
 put-leg-requires c κs = search needs
 
--- src/legs.rt:15:1
+-- src/legs.rt:17:1
 returns-2 : tie.Need-returns-2
 unfolding legRows placed
 returns-2 c =
-    let a = c .before .before .before .before .before .before .before .before .before .before .before .before .before .before .before .before .args in
+    let a = c .before .before .before .before .before .before .before .before .before .before .before .before .before .args in
     let x = instructionAt (a .pack .now) (a .at) in
     let ks = a .keys .now in
     let pools = poolsOf (a .pools .now) in
     let e : legIn (a .names .now) (keyOf ks) (programOf ks x) (x .accounts) (x .bytes) ≡ Nothing =
-    sym (c .before .before .leg .ensures ∙ rw (c .before .before .before .before .accounts .ensures, c .before .before .before .«data» .ensures, c .before .before .before .before .before .before .before .program2 .ensures, case-in (a .keys .now) (a .cases .now) (c .before .before .before .before .before .before .before .before .wide .result) (c .before .before .before .before .before .before .before .before .before .before .before .before .before .before .before .before .pre .2), c .before .before .before .before .before .before .before .before .wide .ensures, c .before .before .before .before .before .before .before .before .before .program .ensures)) ∙ c .enum-told .given .1 in
+    sym (c .before .before .leg .ensures ∙ rw (c .before .before .before .before .accounts .ensures, c .before .before .before .«data» .ensures, c .before .before .before .before .before .before .before .before .before .before .before .before .before .pre .2)) ∙ c .enum-told .given .1 in
     record {
       few = omega arith;
       counted = λ table h. rw (leg-swap (a .names .now) ks pools table x, no-leg (a .names .now) (keyOf ks) (programOf ks x) (x .accounts) (x .bytes) (mintIn table) pools e);
       rows = λ table h. rw (leg-swap (a .names .now) ks pools table x, no-leg (a .names .now) (keyOf ks) (programOf ks x) (x .accounts) (x .bytes) (mintIn table) pools e);
     }
 
--- src/legs.rt:15:1
+-- src/legs.rt:17:1
 same-length : tie.Need-same-length
 same-length c = search needs
 
--- src/legs.rt:15:1
 -- the leg that is found, with the mints that are handed on, is the instruction's swap
 is-leg : (ms names ks : List ℕ) (pools : List Key) (x : Instruction) (s : Swap)
     → legIn names (keyOf ks) (programOf ks x) (x .accounts) (x .bytes) ≡ Leg s
@@ -127,35 +124,33 @@ is-leg ms names ks pools x s e table h p q =
     (h (s .input) p)
     (h (s .output) q)
 
+-- src/legs.rt:17:1
 returns-3 : tie.Need-returns-3
 unfolding legRows placed
 returns-3 c =
-    let a = c .before .before .before .before .before .before .before .before .before .before .before .before .before .before .before .before .before .before .before .before .before .before .before .args in
+    let a = c .before .before .before .before .before .before .before .before .before .before .before .before .before .before .before .before .before .before .before .before .before .before .args in
     let x = instructionAt (a .pack .now) (a .at) in
     let ks = a .keys .now in
     let pools = poolsOf (a .pools .now) in
-    let s = c .before .before .before .before .before .before .before .found .given .0 .0 in
+    let s = c .before .before .before .before .before .before .before .before .before .found .given .0 .0 in
     let e : legIn (a .names .now) (keyOf ks) (programOf ks x) (x .accounts) (x .bytes) ≡ Leg s =
-    sym (c .before .before .before .before .before .before .before .before .before .leg .ensures ∙ rw (c .before .before .before .before .before .before .before .before .before .before .before .accounts .ensures, c .before .before .before .before .before .before .before .before .before .before .«data» .ensures, c .before .before .before .before .before .before .before .before .before .before .before .before .before .before .program2 .ensures, case-in (a .keys .now) (a .cases .now) (c .before .before .before .before .before .before .before .before .before .before .before .before .before .before .before .wide .result) (c .before .before .before .before .before .before .before .before .before .before .before .before .before .before .before .before .before .before .before .before .before .before .before .pre .2), c .before .before .before .before .before .before .before .before .before .before .before .before .before .before .before .wide .ensures, c .before .before .before .before .before .before .before .before .before .before .before .before .before .before .before .before .program .ensures)) ∙ c .before .before .before .before .before .before .before .found .given .1 in
-    let small : s .input < 256 = omega (arith, c .before .before .before .before .before .before .known-told .given) in
-    let small2 : s .output < 256 = omega (arith, c .before .before .before .before .before .before .known-told .given) in
+    sym (c .before .before .before .before .before .before .before .before .before .before .before .leg .ensures ∙ rw (c .before .before .before .before .before .before .before .before .before .before .before .before .before .accounts .ensures, c .before .before .before .before .before .before .before .before .before .before .before .before .«data» .ensures, c .before .before .before .before .before .before .before .before .before .before .before .before .before .before .before .before .before .before .before .before .before .before .pre .2)) ∙ c .before .before .before .before .before .before .before .before .before .found .given .1 in
+    let small : s .input < 256 = omega (arith, c .before .before .before .before .before .before .before .before .known-told .given) in
+    let small2 : s .output < 256 = omega (arith, c .before .before .before .before .before .before .before .before .known-told .given) in
     record {
       few = omega arith;
       counted = λ table h. rw (leg-swap (a .names .now) ks pools table x, is-leg (a .mints .now) (a .names .now) ks pools x s e table h small small2);
       rows =
           λ table h.
           rw
-          (leg-swap (a .names .now) ks pools table x, is-leg (a .mints .now) (a .names .now) ks pools x s e table h small small2, c .before .before .put-leg .ensures, c .before .before .before .before .before .mint .ensures, c .before .before .before .before .mint2 .ensures, c .before .before .before .before .before .before .before .before .before .before .before .before .before .before .before .wide .ensures, c .before .before .before .before .before .before .before .before .before .before .before .before .before .before .before .before .program .ensures);
+          (leg-swap (a .names .now) ks pools table x, is-leg (a .mints .now) (a .names .now) ks pools x s e table h small small2, c .before .before .put-leg .ensures, c .before .before .before .before .before .before .before .mint .ensures, c .before .before .before .before .before .before .mint2 .ensures, c .before .before .before .before .wide .ensures, c .before .before .before .before .before .program .ensures);
     }
 
 pub put-one-spec : {M : Type 1} → statement M
 put-one-spec =
     tie.close
     (tie.spec
-    program-requires
-    wide-requires
-    program-requires-2
-    program-bits-requires
+    trades-requires
     returns
     accounts-requires
     data-requires
@@ -164,6 +159,8 @@ put-one-spec =
     enum-known-found
     mint-requires
     mint-requires-2
+    program-requires
+    wide-requires
     mul-put-leg
     put-leg-requires
     returns-2

@@ -4,23 +4,26 @@ use Rattle.route.specs.Known.{Puts, Fills, Numbers}
 use Rattle.route.specs.Legs.{legRows}
 use Rattle.swaps.specs.Row.{poolsOf}
 use lib.ListN.{length}
-use Prim.Native.Nat.{_-_, _≤_}
-use mathlib.Core.Path.{_≡_, refl, _∙_}
+use Prim.Native.Nat.{_-_, _≤_, ℕ}
+use mathlib.Core.Path.{_≡_, refl, _∙_, sym, ap}
 use native.Mathlib.Omega.{arith}
+use Rattle.route.specs.Program.{programOf}
+use Rattle.pack.specs.Invocation.{instructionAt}
 use Rattle.route.proofs.legs.put_rows.Statement.{statement}
 use Rattle.route.proofs.legs.put_rows.Tie as tie
 use Rattle.route.proofs.legs.put_rows.Reads as reads
 use Rattle.route.proofs.legs.put_rows.Lts as lts
+use Rattle.ids.proofs.of_number.Reads as of-number-reads
 use Rattle.route.proofs.invocations.wide.Reads as wide-reads
 use Rattle.route.proofs.legs.number.Reads as number-reads
 use Rattle.route.proofs.legs.put_one.Reads as put-one-reads
 
 abbrev Inv-loop : tie.InvT-loop
-Inv-loop names keys cases pack pools n at mints out₀ leg₀ k₀ i₀ out leg k i =
+Inv-loop names keys programs pack pools n at mints out₀ leg₀ k₀ i₀ out leg k i =
     (i ≤ n) × (k ≤ i) × (length out ≡ length out₀) × Fills mints keys (legRows names keys (poolsOf pools)) (itemAt pack at) 250 i k out₀ out × Numbers mints keys (legRows names keys (poolsOf pools)) (itemAt pack at) i leg₀ leg
 
 abbrev μ-loop : tie.MeasureT-loop
-μ-loop names keys cases pack pools n at mints out₀ leg₀ k₀ i₀ out leg k i = n - i
+μ-loop names keys programs pack pools n at mints out₀ leg₀ k₀ i₀ out leg k i = n - i
 
 -- src/legs.rt:72:5
 loop-holds : tie.Need-loop-holds Inv-loop μ-loop
@@ -32,6 +35,12 @@ loop-holds c =
       fills-none (a .mints .now) (a .keys .now) (legRows (a .names .now) (a .keys .now) (poolsOf (a .pools .now))) (itemAt (a .pack .now) (a .at .now)) 250 (a .out .now),
       numbers-none (a .mints .now) (a .keys .now) (legRows (a .names .now) (a .keys .now) (poolsOf (a .pools .now))) (itemAt (a .pack .now) (a .at .now)) (a .leg .now),
     )
+
+element-copy-out-of-number : tie.Need-element-copy-out-of-number Inv-loop μ-loop
+element-copy-out-of-number c = omega arith
+
+of-number-requires : tie.Need-of-number-requires Inv-loop μ-loop
+of-number-requires c κs = tt
 
 -- src/legs.rt:73:56
 mul-wide : tie.Need-mul-wide Inv-loop μ-loop
@@ -51,7 +60,13 @@ cast-put-one c = omega arith
 
 -- src/legs.rt:73:13
 put-one-requires : tie.Need-put-one-requires Inv-loop μ-loop
-put-one-requires c κs = (c .before .before .before .before .before .before .before .before .before .before .before .pre .1, omega arith, c .before .before .before .before .before .before .before .before .before .before .before .pre .2)
+put-one-requires c κs =
+    let l = c .before .before .before .before .before .before .loop in
+    let a = c .before .before .before .before .before .before .before .before .before .before .before .before .before .args in (
+      c .before .before .before .before .before .before .before .before .before .before .before .before .before .pre .1,
+      omega arith,
+      c .before .before .before .of-number .ensures ∙ c .before .before .before .before .before .before .before .before .before .before .before .before .before .pre .2 (l .i) (omega arith) ∙ ap (λ (o : ℕ). programOf (a .keys .now) (instructionAt (a .pack .now) o)) (sym (c .before .wide .ensures)),
+    )
 
 -- src/legs.rt:74:18
 number-requires : tie.Need-number-requires Inv-loop μ-loop
@@ -88,8 +103,8 @@ loop-less c = omega arith
 -- src/legs.rt:72:5
 loop-again : tie.Need-loop-again Inv-loop μ-loop
 loop-again c =
-    let l = c .before .before .before .before .before .before .before .before .before .loop in
-    let a = c .before .before .before .before .before .before .before .before .before .before .before .before .before .before .before .before .args in
+    let l = c .before .before .before .before .before .before .before .before .before .before .before .loop in
+    let a = c .before .before .before .before .before .before .before .before .before .before .before .before .before .before .before .before .before .before .args in
     let f = legRows (a .names .now) (a .keys .now) (poolsOf (a .pools .now)) in
     let x = itemAt (a .pack .now) (a .at .now) in
     let r = c .before .before .before .before .put-one .result in
@@ -120,6 +135,8 @@ put-rows-spec =
     Inv-loop
     μ-loop
     loop-holds
+    element-copy-out-of-number
+    of-number-requires
     mul-wide
     element-copy-out-wide
     wide-requires

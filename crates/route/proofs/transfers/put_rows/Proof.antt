@@ -3,22 +3,25 @@ use Rattle.route.specs.Arrays.{itemAt}
 use Rattle.route.specs.Known.{Puts, Fills, Counts}
 use Rattle.route.specs.Transfers.{transferRows}
 use lib.ListN.{length}
-use Prim.Native.Nat.{_-_, _≤_}
-use mathlib.Core.Path.{_≡_, refl, _∙_}
+use Prim.Native.Nat.{_-_, _≤_, ℕ}
+use mathlib.Core.Path.{_≡_, refl, _∙_, sym, ap}
 use native.Mathlib.Omega.{arith}
+use Rattle.route.specs.Program.{programOf}
+use Rattle.pack.specs.Invocation.{instructionAt}
 use Rattle.route.proofs.transfers.put_rows.Statement.{statement}
 use Rattle.route.proofs.transfers.put_rows.Tie as tie
 use Rattle.route.proofs.transfers.put_rows.Reads as reads
 use Rattle.route.proofs.transfers.put_rows.Lts as lts
+use Rattle.ids.proofs.of_number.Reads as of-number-reads
 use Rattle.route.proofs.invocations.wide.Reads as wide-reads
 use Rattle.route.proofs.transfers.put_one.Reads as put-one-reads
 
 abbrev Inv-loop : tie.InvT-loop
-Inv-loop keys cases pack n at mints out₀ moved₀ k₀ i₀ out moved k i =
+Inv-loop keys programs pack n at mints out₀ moved₀ k₀ i₀ out moved k i =
     (i ≤ n) × (k ≤ i) × (length out ≡ length out₀) × Fills mints keys (transferRows keys) (itemAt pack at) 150 i k out₀ out × Counts mints keys (transferRows keys) (itemAt pack at) i moved₀ moved
 
 abbrev μ-loop : tie.MeasureT-loop
-μ-loop keys cases pack n at mints out₀ moved₀ k₀ i₀ out moved k i = n - i
+μ-loop keys programs pack n at mints out₀ moved₀ k₀ i₀ out moved k i = n - i
 
 -- src/transfers.rt:63:5
 loop-holds : tie.Need-loop-holds Inv-loop μ-loop
@@ -30,6 +33,12 @@ loop-holds c =
       fills-none (a .mints .now) (a .keys .now) (transferRows (a .keys .now)) (itemAt (a .pack .now) (a .at .now)) 150 (a .out .now),
       counts-none (a .mints .now) (a .keys .now) (transferRows (a .keys .now)) (itemAt (a .pack .now) (a .at .now)) (a .moved .now),
     )
+
+element-copy-out-of-number : tie.Need-element-copy-out-of-number Inv-loop μ-loop
+element-copy-out-of-number c = omega arith
+
+of-number-requires : tie.Need-of-number-requires Inv-loop μ-loop
+of-number-requires c κs = tt
 
 -- src/transfers.rt:64:42
 mul-wide : tie.Need-mul-wide Inv-loop μ-loop
@@ -49,7 +58,13 @@ cast-put-one c = omega arith
 
 -- src/transfers.rt:64:13
 put-one-requires : tie.Need-put-one-requires Inv-loop μ-loop
-put-one-requires c κs = (c .before .before .before .before .before .before .before .before .before .pre .1, omega arith, c .before .before .before .before .before .before .before .before .before .pre .2)
+put-one-requires c κs =
+    let l = c .before .before .before .before .before .before .loop in
+    let a = c .before .before .before .before .before .before .before .before .before .before .before .args in (
+      c .before .before .before .before .before .before .before .before .before .before .before .pre .1,
+      omega arith,
+      c .before .before .before .of-number .ensures ∙ c .before .before .before .before .before .before .before .before .before .before .before .pre .2 (l .i) (omega arith) ∙ ap (λ (o : ℕ). programOf (a .keys .now) (instructionAt (a .pack .now) o)) (sym (c .before .wide .ensures)),
+    )
 
 -- src/transfers.rt:65:9
 element-write-moved : tie.Need-element-write-moved Inv-loop μ-loop
@@ -78,8 +93,8 @@ loop-less c = omega arith
 -- src/transfers.rt:63:5
 loop-again : tie.Need-loop-again Inv-loop μ-loop
 loop-again c =
-    let l = c .before .before .before .before .before .before .before .before .loop in
-    let a = c .before .before .before .before .before .before .before .before .before .before .before .before .before .args in
+    let l = c .before .before .before .before .before .before .before .before .before .before .loop in
+    let a = c .before .before .before .before .before .before .before .before .before .before .before .before .before .before .before .args in
     let f = transferRows (a .keys .now) in
     let x = itemAt (a .pack .now) (a .at .now) in
     let r = c .before .before .before .put-one .result in
@@ -110,6 +125,8 @@ put-rows-spec =
     Inv-loop
     μ-loop
     loop-holds
+    element-copy-out-of-number
+    of-number-requires
     mul-wide
     element-copy-out-wide
     wide-requires
