@@ -98,7 +98,8 @@ pub fn judge(pack: &[u8]) -> Verdict
     Verdict::Good
 }
 
-// A byte that is there: a walk over a section tests once that a header is there, and then reads its fields without further tests.
+// A byte that is there: a walk over a section tests once that a header is there, and then reads its fields without further tests. (`wire` keeps such
+// readers to itself, since no public function has a `requires`.)
 fn at(s: &[u8], i: usize) -> u8
     requires { ⌜ i < length (now s) ⌝ }
     ensures { λ r. ⌜ r ≡ getD (now (s .entry)) i 0 ⌝ }
