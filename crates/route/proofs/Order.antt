@@ -1,7 +1,7 @@
 -- Order does not matter: two packs with the same evidence, in any order, and what the call leaves of them in table 0.
 -- Assumes nothing.
 use mathlib.Core.Path.{_≡_, refl, sym, ap, _∙_}
-use mathlib.Core.Logic.{_≢_, _⊎_, _↔_, inl, inr}
+use mathlib.Core.Logic.{_≢_, _⊎_, _↔_, inl, inr, ⊎-elim}
 use mathlib.Core.List.{List, [], map, List·Memᴰ}
 use mathlib.Core.Option.{some}
 use Prim.Native.Nat.{ℕ, _*_, _/_, _≤_, _<_}
@@ -19,7 +19,7 @@ use Rattle.pack.specs.Items.{rows}
 use Rattle.pack.proofs.Rows.{row-at}
 use Rattle.route.specs.Lay.{written}
 use Rattle.route.specs.Route.{Lent, Routed, refused, accepted, route}
-use Rattle.route.specs.Order.{evidenceIn, plainsIn, mintsIn, SameEvidence, mintsLeft, Succeeds, ClearsSeven, NoRoom}
+use Rattle.route.specs.Order.{evidenceIn, plainsIn, mintsIn, SameEvidence, mintsLeft, Succeeds, InputTaken, NoRoom, FilledWith, FilledByChains}
 use Rattle.route.proofs.OrderTable.{mints-rows, mints-written}
 use Rattle.route.proofs.OrderMints.{made, sized, rows-room, tables-alike}
 use Rattle.route.proofs.OrderWays.{FewTests, Ways, early, crowded, later, good, ways}
@@ -33,7 +33,7 @@ pub record Left (p : List ℕ) (l : Lent) (r : Routed) : Type 0 where
   pub items : rows 65 (r .answer .mints) (r .mints) ≡ map mintRow (table .rows)
   pub read : mintsLeft r ≡ table .rows
 
--- a call that meets none of the refusals 1 to 7: there is a mint table, and want of room in table 0 is its alone
+-- a call whose input is taken: there is a mint table, and want of room in table 0 is its alone
 record Judged (p : List ℕ) (l : Lent) (r : Routed) : Type 0 where
   table : Answer
   is : mintsIn p ≡ some table
@@ -59,13 +59,19 @@ module _ {p : List ℕ} {l : Lent} where
         read = rw (k, m) (mints-written (x .rows) (l .mints) s room);
       }
 
-  judged-by : {r : Routed} → Ways p l r → ClearsSeven r → Judged p l r
+  judged-by : {r : Routed} → Ways p l r → InputTaken (r .answer) → Judged p l r
   unfolding refused accepted
-  judged-by (early n k h f) (inl e) = absurd (omega arith)
-  judged-by (early n k h f) (inr e) = absurd (omega arith)
+  judged-by (early n k h f) e = absurd (e n h (omega arith) refl)
   judged-by (crowded {x} q h) e = record { table = x; is = q; short = λ s. h; full = λ s. record { number = refl; place = refl } }
   judged-by (later {x} k q h f) e = record { table = x; is = q; short = λ s. absurd (omega (arith, s .place)); full = λ s. absurd (omega arith) }
   judged-by (good {x} t q h m f c) e = record { table = x; is = q; short = λ s. absurd (omega (arith, s .number)); full = λ s. absurd (omega arith) }
+
+  taken-by : {r : Routed} → Ways p l r → InputTaken (r .answer) ↔ ((r .answer .number ≡ 0) ⊎ (r .answer .number ≡ 8))
+  unfolding refused accepted
+  taken-by (early n k h f) = (λ e. absurd (e n h (omega arith) refl), λ s. absurd (⊎-elim (λ e. omega arith) (λ e. omega arith) s))
+  taken-by (crowded q h) = (λ e. inr refl, λ s i a b e. omega arith)
+  taken-by (later k q h f) = (λ e. inr refl, λ s i a b e. omega arith)
+  taken-by (good t q h m f c) = (λ e. inl refl, λ s i a b e. omega arith)
 
   seven-by : {r : Routed} → Ways p l r → r .answer .number ≢ 7
   unfolding refused accepted
@@ -101,6 +107,10 @@ module _ (names p : List ℕ) (l : Lent) where
   pub few-tests : FewTests (route names p l .answer .invocations) (route names p l .answer .tests)
   few-tests = tests-by (ways p l names)
 
+  -- for `route`, to meet none of the refusals 1 to 7 is to be refused with 8 or not at all
+  pub taken-number : InputTaken (route names p l .answer) ↔ ((route names p l .answer .number ≡ 0) ⊎ (route names p l .answer .number ≡ 8))
+  taken-number = taken-by (ways p l names)
+
   -- what a call that is not refused leaves in table 0
   pub left : Succeeds (route names p l) → Left p l (route names p l)
   left e = left-by (ways p l names) e
@@ -121,7 +131,7 @@ module _ (names p : List ℕ) (l : Lent) where
       → List·Memᴰ (a, m, n) (mintsLeft (route names p l)) → List·Memᴰ (a, k, j) (mintsLeft (route names p l)) → (m ≡ k) × (n ≡ j)
   left-once e i j = let q = ascending-once (left-ascends e) i j refl in (ap (λ r. r .1) q, ap (λ r. r .2) q)
 
-  -- (ii) an account has a row exactly when a chain reaches it
+  -- an account, recorded or not, has a row exactly when a chain reaches it; none reaches an ambiguous one
   pub left-reached : {a : Key} → Succeeds (route names p l)
       → ((m : Key) × (n : ℕ) × List·Memᴰ (a, m, n) (mintsLeft (route names p l))) ↔ ((m : Key) × Chain (evidenceIn p) (plainsIn p) m a)
   left-reached e = let t = left e in rw (t .read) (row-reached (made p (t .is)))
@@ -143,6 +153,13 @@ module _ (names p : List ℕ) (l : Lent) where
   pub left-filled : {a m : Key} {n : ℕ} → Succeeds (route names p l) → List·Memᴰ (a, m, n) (mintsLeft (route names p l))
       → ((n ≡ 1) ⊎ (n ≡ 2)) ↔ Free (evidenceIn p) a
   left-filled e i = let t = left e in row-filled (made p (t .is)) (rw (t .read) at i)
+
+  -- (ii) an account with no recorded mint is filled in exactly when a chain reaches it, with the mint at the start of one
+  pub filled-in : {a : Key} → Succeeds (route names p l) → Free (evidenceIn p) a → FilledByChains p (mintsLeft (route names p l)) a
+  filled-in {a} e f = record { exactly = (λ x. (x .0, left-starts e (x .1 .row)), λ c. filled (left-reached e .1 c)); start = λ i. left-starts e i }
+    where
+      filled : ((m : Key) × (n : ℕ) × List·Memᴰ (a, m, n) (mintsLeft (route names p l))) → (m : Key) × FilledWith (mintsLeft (route names p l)) a m
+      filled (m, n, i) = (m, record { mark = n; marked = left-filled e i .1 f; row = i })
 
   -- with no chains from two different mints to one account, every account filled in has mark 1
   pub left-sure : {a m : Key} {n : ℕ} → Succeeds (route names p l) → Apart (evidenceIn p) (plainsIn p) → Free (evidenceIn p) a
@@ -175,7 +192,7 @@ module _ (names : List ℕ) (l : Lent) {p q : List ℕ} (h : SameEvidence p q) (
   same-bytes-unjoined d = same-bytes (unjoined-apart d)
 
 -- (iv) two packs with the same evidence, neither meeting refusals 1 to 7: want of room in table 0 is refused alike
-pub same-room : (names : List ℕ) (l : Lent) {p q : List ℕ} → SameEvidence p q → ClearsSeven (route names p l) → ClearsSeven (route names q l)
+pub same-room : (names : List ℕ) (l : Lent) {p q : List ℕ} → SameEvidence p q → InputTaken (route names p l .answer) → InputTaken (route names q l .answer)
     → NoRoom (route names p l) ↔ NoRoom (route names q l)
 same-room names l {p} {q} h a b =
     let x = judged-by (ways p l names) a in

@@ -1,21 +1,27 @@
--- Order does not matter, over two calls: of the answers and the bytes that the contract `Leaves` promises, for two packs with the same evidence.
+-- Order does not matter, over calls: of the answers and the bytes that the contract `Leaves` promises, for a pack and for two with the same evidence.
 -- Assumes nothing.
 use mathlib.Core.Path.{_≡_, sym, subst, _∙_}
-use mathlib.Core.Logic.{_⊎_, _↔_}
+use mathlib.Core.Logic.{_↔_}
 use mathlib.Core.List.{List, List·Memᴰ}
 use Prim.Native.Nat.{ℕ}
 use Rattle.ids.specs.Keys.{Key}
-use Rattle.evidence.specs.Evidence.{One}
+use Rattle.evidence.specs.Evidence.{Free, One}
 use Rattle.evidence.specs.Independence.{Apart, Unjoined, unjoined-apart}
 use Rattle.evidence.specs.MintTable.{rowAccounts}
 use Rattle.route.specs.declared.Answer.{Answer}
 use Rattle.route.specs.Route.{Lent, lent, Routed, route, Leaves}
-use Rattle.route.specs.Order.{evidenceIn, plainsIn, SameEvidence, mintsRead, NoRoom}
-use Rattle.route.proofs.Order.{same-accounts, same-count, same-recorded, same-bytes, same-room}
+use Rattle.route.specs.Order.{evidenceIn, plainsIn, SameEvidence, mintsRead, InputTaken, NoRoom, FilledByChains}
+use Rattle.route.proofs.Order.{filled-in, same-accounts, same-count, same-recorded, same-bytes, same-room}
 
 -- refused for want of room in table 0
 abbrev pub Crowded : Answer → Type 0
 Crowded r = (r .number ≡ 8) × (r .place ≡ 0)
+
+-- one call, not refused
+module _ {names p t0 t1 t2 t3 t4 : List ℕ} {r : Answer} {o0 o1 o2 o3 o4 : List ℕ} (x : Leaves names p t0 t1 t2 t3 t4 r o0 o1 o2 o3 o4) (e : r .number ≡ 0) where
+  -- (ii) an account with no recorded mint is filled in exactly when a chain reaches it, with the mint at the start of one
+  pub table-filled-in : {a : Key} → Free (evidenceIn p) a → FilledByChains p (mintsRead (r .mints) o0) a
+  table-filled-in f = rw (x .answer, x .mints) (filled-in names p (lent t0 t1 t2 t3 t4) (rw (x .answer) at e) f)
 
 -- two calls with the same names, tables of the same five lengths, and packs with the same evidence
 module _ {names p q t0 t1 t2 t3 t4 u0 u1 u2 u3 u4 : List ℕ} {r r′ : Answer} {o0 o1 o2 o3 o4 o0′ o1′ o2′ o3′ o4′ : List ℕ} (x : Leaves names p t0 t1 t2 t3 t4 r o0 o1 o2 o3 o4) (y : Leaves names q u0 u1 u2 u3 u4 r′ o0′ o1′ o2′ o3′ o4′) (k : lent t0 t1 t2 t3 t4 ≡ lent u0 u1 u2 u3 u4) (h : SameEvidence p q) where
@@ -52,8 +58,8 @@ module _ {names p q t0 t1 t2 t3 t4 u0 u1 u2 u3 u4 : List ℕ} {r r′ : Answer} 
     pub same-table-unjoined : Unjoined (evidenceIn p) (plainsIn p) → o0 ≡ o0′
     same-table-unjoined d = same-table (unjoined-apart d)
 
-  -- (iv) neither refused with 1 to 7: for want of room in table 0 both are refused, or neither
-  pub same-table-room : (r .number ≡ 0) ⊎ (r .number ≡ 8) → (r′ .number ≡ 0) ⊎ (r′ .number ≡ 8) → Crowded r ↔ Crowded r′
+  -- (iv) neither meeting refusals 1 to 7: for want of room in table 0 both are refused, or neither
+  pub same-table-room : InputTaken r → InputTaken r′ → Crowded r ↔ Crowded r′
   same-table-room a b =
       let s = same-room names (lent t0 t1 t2 t3 t4) h (rw (x .answer) at a) (rw answer-right at b) in
       rw (x .answer, answer-right) (λ c. pair (s .0 (record { number = c .0; place = c .1 })), λ c. pair (s .1 (record { number = c .0; place = c .1 })))

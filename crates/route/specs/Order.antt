@@ -1,12 +1,12 @@
--- What it is to speak of two packs with the same evidence, and of the rows that stand in table 0's bytes.
+-- What it is to speak of two packs with the same evidence, of the rows that stand in table 0's bytes, and of accounts that are filled in.
 -- Assumes nothing.
-use Prim.Native.Nat.{ℕ}
+use Prim.Native.Nat.{ℕ, _≤_}
 use mathlib.Core.Path.{_≡_}
-use mathlib.Core.List.{List, map, List·Permᴰ}
+use mathlib.Core.List.{List, map, List·Memᴰ, List·Permᴰ}
 use mathlib.Core.Option.{Option}
-use mathlib.Core.Logic.{_⊎_}
+use mathlib.Core.Logic.{_≢_, _⊎_, _↔_}
 use lib.ListN.{getD, take, drop}
-use Rattle.ids.specs.Keys.{keyOf}
+use Rattle.ids.specs.Keys.{Key, keyOf}
 use Rattle.ids.specs.Which.{programAt}
 use Rattle.pack.specs.Invocation.{Instruction}
 use Rattle.pack.specs.Sections.{sectionOf}
@@ -15,9 +15,11 @@ use Rattle.pack.specs.View.{viewOf}
 use Rattle.pack.specs.Flatten.{flatten}
 use Rattle.evidence.specs.Evidence.{Evidence}
 use Rattle.evidence.specs.Passes.{Transfers}
+use Rattle.evidence.specs.Chains.{Chain}
 use Rattle.evidence.specs.MintTable.{MintRow, Answer}
 use Rattle.mints.specs.Inference.{evidenceOf, transfersOf, inferred}
 use Rattle.route.specs.Tables.{instructionsOf}
+use Rattle.route.specs.declared.Answer.{Answer as Reply}
 use Rattle.route.specs.Route.{Routed}
 
 -- the kept invocations of a pack without their positions: program index, accounts, data
@@ -58,11 +60,22 @@ mintsLeft r = mintsRead (r .answer .mints) (r .mints)
 abbrev pub Succeeds : Routed → Type 0
 Succeeds r = r .answer .number ≡ 0
 
--- a call that meets none of the refusals 1 to 7
-abbrev pub ClearsSeven : Routed → Type 0
-ClearsSeven r = (r .answer .number ≡ 0) ⊎ (r .answer .number ≡ 8)
+-- names and pack are taken: the call meets none of the refusals 1 to 7, and only room may be wanting
+abbrev pub InputTaken : Reply → Type 0
+InputTaken r = (k : ℕ) → 1 ≤ k → k ≤ 7 → r .number ≢ k
 
 -- a call that is refused for want of room in table 0
 pub record NoRoom (r : Routed) : Type 0 where
   pub number : r .answer .number ≡ 8
   pub place : r .answer .place ≡ 0
+
+-- account a is filled in with mint m: it has that row, and the row's mark is 1 or 2
+pub record FilledWith (left : List MintRow) (a m : Key) : Type 0 where
+  pub mark : ℕ
+  pub marked : (mark ≡ 1) ⊎ (mark ≡ 2)
+  pub row : List·Memᴰ (a, m, mark) left
+
+-- account a is filled in exactly when a chain of pack p reaches it; and every row that it has holds the mint at the start of one
+pub record FilledByChains (p : List ℕ) (left : List MintRow) (a : Key) : Type 0 where
+  pub exactly : ((m : Key) × FilledWith left a m) ↔ ((m : Key) × Chain (evidenceIn p) (plainsIn p) m a)
+  pub start : {m : Key} {n : ℕ} → List·Memᴰ (a, m, n) left → Chain (evidenceIn p) (plainsIn p) m a
