@@ -1,4 +1,4 @@
--- Each marked case has its outcome: its pack, as bytes, goes through the whole of `route`, which antt computes.
+-- Each marked case has its outcome: its pack, as bytes, says what the case says and goes through the whole of `route`. Antt computes both.
 -- Assumes nothing.
 use mathlib.Core.Path.{_≡_, refl}
 use mathlib.Core.List.{List, _∷_, map, flatMap}
@@ -12,7 +12,7 @@ use Rattle.ids.specs.Which.{ofNumber, rowFrom, which, programAt}
 use Rattle.pack.specs.Invocation.{instructionAt}
 use Rattle.pack.specs.Sections.{mark, marked, startOf, ordered, hasSection, sectionOf}
 use Rattle.pack.specs.Items.{rows, rowsFill, keysFill, itemEnd, outersFrom, outersFill, heightAt, heightGood, innersEnd, innersGood, innersFrom, groupEnd, groupGood, groupAt, groupsFrom, groupsFill}
-use Rattle.pack.specs.View.{View, keysIn, balancesIn, outerIn, groupsIn, viewOf}
+use Rattle.pack.specs.View.{View, keysIn, balancesIn, outerIn, groupsIn, poolsIn, viewOf}
 use Rattle.pack.specs.Flatten.{numbered, inside, flattenFrom, flatten}
 use Rattle.pack.specs.Verdict.{verdict}
 use Rattle.token.specs.Programs.{isToken, isToken2022}
@@ -60,6 +60,10 @@ names = 143 ∷ 190 ∷ 90 ∷ 218 ∷ 196 ∷ 30 ∷ 51 ∷ 222 ∷ 55 ∷ 217 
 abbrev pub room : Lent
 room = record { mints = 3 * 65; invocations = 5 * 23; transfers = 2 * 150; legs = 250; natives = 0 }
 
+-- the pack of each case, read back, says what the case says
+abbrev pub ReadBack : List (View × Outcome) → Type 0
+ReadBack cs = map (λ c. viewOf (packOf (c .0))) cs ≡ map (λ c. c .0) cs
+
 -- what the call leaves of a case's pack
 unfoldable pub called : View × Outcome → Routed
 called c = route names (packOf (c .0)) room
@@ -75,3 +79,8 @@ expected c = (0, c .1)
 pub marked-cases : map found cases ≡ map expected cases
 unfolding key cases names called packOf flatMap le leBytes same zeroKey ids ofNumber rowFrom which programAt instructionAt mark marked startOf ordered hasSection sectionOf rows rowsFill keysFill itemEnd outersFrom outersFill heightAt heightGood innersEnd innersGood innersFrom groupEnd groupGood groupAt groupsFrom groupsFill keysIn balancesIn outerIn groupsIn viewOf numbered inside flattenFrom flatten verdict isToken isToken2022 initialises plainTransfer checkedTransfer feeTransfer bothEnds records plain plainly checked transfer isSystem funds syncs closes asked counted nativeAction is tagSize slices slicesFit layout dlmm trackVolume pumpSwap pumpSwapLeg ammV4 valued byProgram swap endBytes keyBytes legRow ltKey gather lookup put note noteAll recorded fill spread step pass passCounted run runFrom infer insert sort clean final absent differ opposes opposed markOf mintTable finish mints mintIn balanceSays says moves evidenceOf transfersOf inferred higher inners descendant firstNot anyIn countIn sumIn atop testsAt tab place within rowsOf placed flagged invocationRow transferOf transferRows legOf legRows actionOf actionRows invocationAt tablesWith tablesIf tables accepted fitted passed judged route
 marked-cases = refl
+
+-- so none of these outcomes comes of a garbled pack
+pub marked-packs : ReadBack cases
+unfolding key cases packOf flatMap flagged tab ids le leBytes mark startOf hasSection sectionOf instructionAt rows itemEnd outersFrom heightAt innersEnd innersFrom groupEnd groupAt groupsFrom keysIn balancesIn outerIn groupsIn poolsIn viewOf
+marked-packs = refl
