@@ -12,6 +12,7 @@ use lib.Seq.{ext-getD, getD-take, getD-drop}
 use Rattle.wire.specs.Zeros.{zeros, zeros-at}
 use Rattle.ids.specs.Keys.{Key, zeroKey}
 use Rattle.evidence.specs.Table.{lookup}
+use Rattle.mints.specs.Bytes.{mintWidth}
 use Rattle.mints.specs.Cells.{accountAt, stateAt, held, firstRow, withState}
 use Rattle.mints.specs.Lay.{Laid, layAt, layKey, layTo, laid}
 use Rattle.mints.proofs.Fields.{account-state, state-here, state-other, length-state}
@@ -27,8 +28,8 @@ zero-account n h =
     (zeros 32)
     (simp (length-take, length-drop, length-replicate) (omega arith))
     (λ j l.
-    let k : j < 32 = omega (arith, length-take 32 (drop (0 * 65) (zeros n))) in
-    getD-take 32 (drop (0 * 65) (zeros n)) j 0 k ∙ getD-drop (0 * 65) (zeros n) j 0 ∙ zeros-at n (0 * 65 + j) ∙ sym (zeros-at 32 j))
+    let k : j < 32 = omega (arith, length-take 32 (drop (0 * mintWidth) (zeros n))) in
+    getD-take 32 (drop (0 * mintWidth) (zeros n)) j 0 k ∙ getD-drop (0 * mintWidth) (zeros n) j 0 ∙ zeros-at n (0 * mintWidth + j) ∙ sym (zeros-at 32 j))
 
 lay-wide : (κ : ℕ → Key) (t row : List ℕ) (i : ℕ) → length (layTo κ t row i .row) ≡ length row
 unfolding layTo layKey layAt
@@ -36,7 +37,7 @@ lay-wide κ t row zero = refl
 lay-wide κ t row (suc i) = length-set (layTo κ t row i .row) i (firstRow (layTo κ t row i .table) (κ i) (layTo κ t row i .rows)) ∙ lay-wide κ t row i
 
 -- all keys have their rows
-pub laid-rows : (κ : ℕ → Key) → ((j : ℕ) → length (κ j) ≡ 32) → (size wide i : ℕ) → i ≤ wide → suc i * 65 ≤ size → Rows κ size i (laid κ (zeros size) (zeros wide) i)
+pub laid-rows : (κ : ℕ → Key) → ((j : ℕ) → length (κ j) ≡ 32) → (size wide i : ℕ) → i ≤ wide → suc i * mintWidth ≤ size → Rows κ size i (laid κ (zeros size) (zeros wide) i)
 unfolding layTo
 laid-rows κ long size wide zero h r =
     record {
@@ -46,7 +47,7 @@ laid-rows κ long size wide zero h r =
       zero-row = account-state (zeros size) 0 1 0 ∙ zero-account size (omega arith);
       apart = λ r q a b e. omega arith;
       first = state-here (zeros size) 0 1 (simp length-replicate (omega arith));
-      none = λ r l. state-other (zeros size) 0 1 r (omega arith) ∙ zeros-at size (r * 65 + 64);
+      none = λ r l. state-other (zeros size) 0 1 r (omega arith) ∙ zeros-at size (r * mintWidth + 64);
       row = λ j m. absurd (omega arith);
       rest = λ j m. zeros-at wide j;
     }
@@ -73,7 +74,7 @@ row-right {c} h z j =
 pub laid-apart : {κ : ℕ → Key} {size c : ℕ} {s : Laid} → Rows κ size c s → Apart (s .rows) (accountAt (s .table))
 laid-apart h = record { some-row = h .some-row; zero-row = h .zero-row; apart = λ r q. h .apart r q }
 
-pub laid-holds : {κ : ℕ → Key} {size c : ℕ} {s : Laid} → Rows κ size c s → suc c * 65 ≤ size → Holds 2 (s .rows) (accountAt (s .table)) (s .table) []
+pub laid-holds : {κ : ℕ → Key} {size c : ℕ} {s : Laid} → Rows κ size c s → suc c * mintWidth ≤ size → Holds 2 (s .rows) (accountAt (s .table)) (s .table) []
 unfolding held lookup
 laid-holds {s} h r =
     record {

@@ -11,6 +11,7 @@ use lib.ListN.{length}
 use Rattle.ids.specs.Keys.{Key, zeroKey}
 use Rattle.evidence.specs.Keys.{key?}
 use Rattle.evidence.specs.Table.{Table, lookup}
+use Rattle.mints.specs.Bytes.{mintWidth}
 use Rattle.mints.specs.Cells.{accountAt, mintAt, stateAt, held, withMint, withState}
 use Rattle.mints.proofs.Fields.{account-state, mint-state, state-other, length-state, account-mint, mint-other, states-other, length-mint}
 
@@ -26,7 +27,7 @@ not-zero p r h k e = let z : r ≡ 0 = p .apart r 0 k (p .some-row) (e ∙ sym (
 
 -- the rows of t, as states up to b and mints
 pub record Holds (b n : ℕ) (α : ℕ → Key) (w : List ℕ) (t : Table) : Type 0 where
-  pub long : n * 65 ≤ length w
+  pub long : n * mintWidth ≤ length w
   pub account : (r : ℕ) → r < n → accountAt w r ≡ α r
   pub first : stateAt w 0 ≡ 1
   pub low : (r : ℕ) → r < n → stateAt w r ≤ b

@@ -13,6 +13,7 @@ use borrow.Author.Tests.{eq-eqb, ne-eqb}
 use Rattle.wire.specs.Same.{same, same-true, same-eq}
 use Rattle.wire.specs.Sets.{sets-before, sets-after}
 use Rattle.ids.specs.Keys.{Key, zeroKey}
+use Rattle.mints.specs.Bytes.{mintWidth}
 use Rattle.mints.specs.Cells.{accountAt, stateAt, firstFrom}
 use Rattle.mints.specs.Lay.{Laid, layAt, layKey}
 use Rattle.mints.proofs.Fields.{window, stored}
@@ -47,7 +48,7 @@ pub record Rows (κ : ℕ → Key) (size i : ℕ) (s : Laid) : Type 0 where
   pub row : (j : ℕ) → j < i → (getD (s .row) j 0 < s .rows) × (accountAt (s .table) (getD (s .row) j 0) ≡ κ j)
   pub rest : (j : ℕ) → i ≤ j → getD (s .row) j 0 ≡ 0
 
-module _ (κ : ℕ → Key) (long : (j : ℕ) → length (κ j) ≡ 32) (size i : ℕ) (s : Laid) (h : Rows κ size i s) (k : i < length (s .row)) (room : suc (suc i) * 65 ≤ size) where
+module _ (κ : ℕ → Key) (long : (j : ℕ) → length (κ j) ≡ 32) (size i : ℕ) (s : Laid) (h : Rows κ size i s) (k : i < length (s .row)) (room : suc (suc i) * mintWidth ≤ size) where
   -- a key that has a row
   old : (r : ℕ) → r < s .rows → accountAt (s .table) r ≡ κ i → Rows κ size (suc i) (layAt s i (κ i) r)
   unfolding layAt
@@ -68,23 +69,23 @@ module _ (κ : ℕ → Key) (long : (j : ℕ) → length (κ j) ≡ 32) (size i 
   -- a key that has none
   module _ (d : (q : ℕ) → q < s .rows → accountAt (s .table) q ≢ κ i) where
     added : List ℕ
-    added = sets (s .table) (s .rows * 65) (κ i)
+    added = sets (s .table) (s .rows * mintWidth) (κ i)
 
     account-old : (q : ℕ) → q < s .rows → accountAt added q ≡ accountAt (s .table) q
     unfolding added
-    account-old q l = window (s .table) (κ i) (q * 65) 32 (s .rows * 65) (inl (omega arith))
+    account-old q l = window (s .table) (κ i) (q * mintWidth) 32 (s .rows * mintWidth) (inl (omega arith))
 
     account-new : accountAt added (s .rows) ≡ κ i
     unfolding added
-    account-new = stored (s .table) (κ i) (s .rows * 65) 32 (long i) (omega (arith, h .few, h .whole))
+    account-new = stored (s .table) (κ i) (s .rows * mintWidth) 32 (long i) (omega (arith, h .few, h .whole))
 
     state-same : (q : ℕ) → stateAt added q ≡ stateAt (s .table) q
     unfolding added
     state-same q =
         by-cases
         (decLt q (s .rows))
-        (λ (l : q < s .rows). sets-before (s .table) (s .rows * 65) (κ i) (q * 65 + 64) (omega arith))
-        (λ (l : ¬ (q < s .rows)). sets-after (s .table) (s .rows * 65) (κ i) (q * 65 + 64) (omega (arith, long i)))
+        (λ (l : q < s .rows). sets-before (s .table) (s .rows * mintWidth) (κ i) (q * mintWidth + 64) (omega arith))
+        (λ (l : ¬ (q < s .rows)). sets-after (s .table) (s .rows * mintWidth) (κ i) (q * mintWidth + 64) (omega (arith, long i)))
 
     -- the rows stay apart
     apart : (r q : ℕ) → r < suc (s .rows) → q < suc (s .rows) → accountAt added r ≡ accountAt added q → r ≡ q
@@ -107,7 +108,7 @@ module _ (κ : ℕ → Key) (long : (j : ℕ) → length (κ j) ≡ 32) (size i 
     new r z =
         rw (eq-eqb r (s .rows) z, z)
         (record {
-          whole = length-sets (s .table) (s .rows * 65) (κ i) ∙ h .whole;
+          whole = length-sets (s .table) (s .rows * mintWidth) (κ i) ∙ h .whole;
           few = omega (arith, h .few);
           some-row = omega arith;
           zero-row = account-old 0 (h .some-row) ∙ h .zero-row;

@@ -21,6 +21,7 @@ use Rattle.evidence.specs.Final.{final}
 use Rattle.evidence.specs.Marks.{differ, opposes, opposed}
 use Rattle.evidence.specs.Lookups.{known, known-mint, known-zero, final-lookup, zero-lacks}
 use Rattle.evidence.specs.Marking.{opposed-append, opposes-none, opposes-source, opposes-target, opposes-other}
+use Rattle.mints.specs.Bytes.{mintWidth}
 use Rattle.mints.specs.Cells.{accountAt, mintAt, stateAt, held}
 use Rattle.mints.specs.Pass.{differAt, doubtAt, doubtsTo}
 use Rattle.mints.proofs.States.{marked, marked-mint, marked-again, marked-still, doubt-here, doubt-other, doubt-account, doubt-mint, doubt-length}
@@ -101,7 +102,7 @@ module _ {n : ℕ} {α : ℕ → Key} {e : Evidence} {ps : Transfers} {t : Table
         differs : differ (lookup (final t) (α a)) (lookup (final t) (α b)) ≡ true
         differs = sym (differ-rows a b k l) ∙ d
 
-        fits : (r : ℕ) → r < n → r * 65 + 65 ≤ length v
+        fits : (r : ℕ) → r < n → r * mintWidth + mintWidth ≤ length v
         fits r j = rw (m .length) (omega (arith, h .long))
 
         -- a row that is marked, once or twice

@@ -15,6 +15,7 @@ use Rattle.mints.specs.Note.{noteAt, balancesTo}
 use Rattle.mints.specs.Gather.{gatherTo}
 use Rattle.mints.specs.Prepare.{laidOf, gatheredOf}
 use Rattle.ids.proofs.Keys.{key-length}
+use Rattle.mints.specs.Bytes.{mintWidth}
 use Rattle.mints.proofs.Noting.{one-new}
 use Rattle.mints.proofs.Laid.{Rows}
 use Rattle.mints.proofs.Begun.{laid-rows, row-right}
@@ -24,9 +25,9 @@ key-past : (ks : List ℕ) (j : ℕ) → keyCount ks ≤ j → keyOf ks j ≡ ze
 key-past ks j h = rw (le-ltb j (keyCount ks) h)
 
 module _ (ks : List ℕ) (h : keyCount ks ≤ 256) where
-  pub rows-laid : Rows (keyOf ks) 16705 (keyCount ks) (laidOf ks)
+  pub rows-laid : Rows (keyOf ks) (257 * mintWidth) (keyCount ks) (laidOf ks)
   unfolding laidOf
-  rows-laid = laid-rows (keyOf ks) (λ j. key-length ks j) 16705 256 (keyCount ks) h (omega arith)
+  rows-laid = laid-rows (keyOf ks) (λ j. key-length ks j) (257 * mintWidth) 256 (keyCount ks) h (omega arith)
 
   -- each key index has its row
   pub laid-index : (j : ℕ) → (getD (laidOf ks .row) j 0 < laidOf ks .rows) × (accountAt (laidOf ks .table) (getD (laidOf ks .row) j 0) ≡ keyOf ks j)
@@ -35,7 +36,7 @@ module _ (ks : List ℕ) (h : keyCount ks ≤ 256) where
   pub laid-fits : Fits (laidOf ks .table) (laidOf ks .row)
   laid-fits j = omega (arith, (laid-index j) .0, rows-laid .few, rows-laid .whole)
 
-pub laid-is : (ks : List ℕ) {t r : List ℕ} → t ≡ zeros 16705 → r ≡ zeros 256 → laid (keyOf ks) t r (keyCount ks) ≡ laidOf ks
+pub laid-is : (ks : List ℕ) {t r : List ℕ} → t ≡ zeros (257 * mintWidth) → r ≡ zeros 256 → laid (keyOf ks) t r (keyCount ks) ≡ laidOf ks
 unfolding laidOf
 laid-is ks e f = rw (e, f)
 

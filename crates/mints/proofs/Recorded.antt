@@ -15,6 +15,7 @@ use Rattle.evidence.specs.Table.{Table, lookup}
 use Rattle.evidence.specs.Evidence.{note}
 use Rattle.evidence.specs.Recording.{note-account, note-mint}
 use Rattle.evidence.specs.Lookups.{merge, note-here, note-other, note-first, note-again}
+use Rattle.mints.specs.Bytes.{mintWidth}
 use Rattle.mints.specs.Cells.{mintAt, stateAt, held, withMint, withState}
 use Rattle.mints.specs.Note.{recordAt, newAt}
 use Rattle.mints.proofs.Noting as noting
@@ -31,7 +32,7 @@ module _ {n : ℕ} {α : ℕ → Key} (p : Apart n α) (w : List ℕ) (t : Table
   idle q = rw q (h, omega arith)
 
   module _ (z : 0 < r) (v : m ≢ zeroKey) where
-    whole : r * 65 + 65 ≤ length w
+    whole : r * mintWidth + mintWidth ≤ length w
     whole = omega (arith, h .long)
 
     others : (a : Key) → a ≢ α r → lookup (note t (α r, m)) a ≡ lookup t a

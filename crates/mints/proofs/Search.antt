@@ -10,21 +10,22 @@ use lib.ListN.{length, getD, length-take, length-drop}
 use lib.Seq.{ext-getD, getD-take, getD-drop}
 use lib.Dec.{ltb}
 use Rattle.wire.specs.Same.{same, same-refl, same-not-at}
+use Rattle.mints.specs.Bytes.{mintWidth}
 use Rattle.mints.specs.Cells.{accountAt, Fits, Ends, firstFrom}
 use Rattle.mints.specs.Gather.{rowOf}
 
 module _ (t k : List ℕ) where
-  account-byte : (i j : ℕ) → j < 32 → getD (accountAt t i) j 0 ≡ getD t (i * 65 + j) 0
+  account-byte : (i j : ℕ) → j < 32 → getD (accountAt t i) j 0 ≡ getD t (i * mintWidth + j) 0
   account-byte i j h = rw (getD-take, getD-drop)
 
   -- every byte is the key's
-  pub account-is : (i : ℕ) → i * 65 + 32 ≤ length t → length k ≡ 32 → ((j : ℕ) → j < 32 → getD t (i * 65 + j) 0 ≡ getD k j 0) → same (accountAt t i) k ≡ true
+  pub account-is : (i : ℕ) → i * mintWidth + 32 ≤ length t → length k ≡ 32 → ((j : ℕ) → j < 32 → getD t (i * mintWidth + j) 0 ≡ getD k j 0) → same (accountAt t i) k ≡ true
   account-is i h e f =
       let l : length (accountAt t i) ≡ 32 = simp (length-take, length-drop) (omega arith) in
       rw (ext-getD 0 (accountAt t i) k (l ∙ sym e) (λ j lt. account-byte i j (omega arith) ∙ f j (omega arith))) (same-refl k)
 
   -- a byte is not
-  pub account-not : (i j : ℕ) → j < 32 → (getD t (i * 65 + j) 0 ≡ getD k j 0 → ⊥) → same (accountAt t i) k ≡ false
+  pub account-not : (i j : ℕ) → j < 32 → (getD t (i * mintWidth + j) 0 ≡ getD k j 0 → ⊥) → same (accountAt t i) k ≡ false
   account-not i j h f = same-not-at (accountAt t i) k j (λ e. f (sym (account-byte i j h) ∙ e))
 
   pub skip : (n i : ℕ) → i < n → same (accountAt t i) k ≡ false → firstFrom t k (n - (i + 1)) (i + 1) ≡ firstFrom t k (n - i) i
@@ -67,10 +68,10 @@ module _ (t k : List ℕ) where
       missed n 0 (λ r a b. account-not r 31 (omega arith) (λ q. f r (omega arith) (ap (λ (x : ℕ). getD ends x 0) q ∙ e))) ∙ omega arith
 
 -- row 0 is whole if any row is
-pub row-fits : (t row accounts : List ℕ) (i : ℕ) → Fits t row → rowOf row accounts i * 65 + 65 ≤ length t
+pub row-fits : (t row accounts : List ℕ) (i : ℕ) → Fits t row → rowOf row accounts i * mintWidth + mintWidth ≤ length t
 unfolding rowOf
 row-fits t row accounts i f = go (ltb i (length accounts))
   where
-    go : (b : Bool) → cond b (getD row (getD accounts i 0) 0) 0 * 65 + 65 ≤ length t
+    go : (b : Bool) → cond b (getD row (getD accounts i 0) 0) 0 * mintWidth + mintWidth ≤ length t
     go true = f (getD accounts i 0)
     go false = omega (arith, f 0)

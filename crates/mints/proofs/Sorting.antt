@@ -16,11 +16,12 @@ use lib.Seq.{getD-take}
 use Rattle.ids.specs.Keys.{Key}
 use Rattle.evidence.specs.Keys.{ltKey, Below, below-trans, Order, order, less, level, more, ltKey-below, ltKey-above, ltKey-true}
 use Rattle.evidence.specs.Ascending.{put-mem, mem-put}
+use Rattle.mints.specs.Bytes.{mintWidth}
 use Rattle.mints.specs.Cells.{accountAt, stateAt, Fits}
 use Rattle.mints.specs.Order.{spotIn, Rising, rising-nil, rising-cons, putIn, sortTo}
 
 -- a row number among the first k
-pub fit-at : (t o : List ℕ) (k j : ℕ) → j < k → Fits t (take k o) → getD o j 0 * 65 + 65 ≤ length t
+pub fit-at : (t o : List ℕ) (k j : ℕ) → j < k → Fits t (take k o) → getD o j 0 * mintWidth + mintWidth ≤ length t
 fit-at t o k j h f = rw (getD-take k o j 0 h) at (f j)
 
 pub spot-bound : (t : List ℕ) (r : ℕ) (l : List ℕ) → spotIn t r l ≤ length l
@@ -149,7 +150,7 @@ module _ (t : List ℕ) where
       go false e (inr k) f = f k
 
 -- the ordered rows are whole
-pub sort-fits : (t : List ℕ) (n : ℕ) → n * 65 ≤ length t → 65 ≤ length t → Fits t (sortTo t n)
+pub sort-fits : (t : List ℕ) (n : ℕ) → n * mintWidth ≤ length t → mintWidth ≤ length t → Fits t (sortTo t n)
 sort-fits t n h k i =
     by-cases
     (decLt i (length (sortTo t n)))

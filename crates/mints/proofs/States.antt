@@ -9,6 +9,7 @@ use native.Mathlib.Decide.{ℕ-discrete}
 use lib.Dec.{eqb, ltb}
 use lib.ListN.{length}
 use borrow.Author.Tests.{eq-eqb, ne-eqb}
+use Rattle.mints.specs.Bytes.{mintWidth}
 use Rattle.mints.specs.Cells.{accountAt, mintAt, stateAt, withState}
 use Rattle.mints.specs.Pass.{doubtAt}
 use Rattle.mints.proofs.Fields.{account-state, mint-state, state-here, state-other, length-state}
@@ -45,7 +46,7 @@ pub marked-still : (s : ℕ) → marked s false ≡ s
 marked-still s = by-cases (ℕ-discrete s 3) (λ e. rw (e, marked-filled false)) (λ n. marked-other s false n)
 
 -- a row that a transfer marks
-pub doubt-here : (w : List ℕ) (r : ℕ) → r * 65 + 65 ≤ length w → stateAt (doubtAt w r) r ≡ marked (stateAt w r) true
+pub doubt-here : (w : List ℕ) (r : ℕ) → r * mintWidth + mintWidth ≤ length w → stateAt (doubtAt w r) r ≡ marked (stateAt w r) true
 unfolding doubtAt
 doubt-here w r h =
     by-cases

@@ -15,6 +15,7 @@ use Rattle.evidence.specs.Table.{Table, add, lookup}
 use Rattle.evidence.specs.Passes.{Transfers, step, pass, length-add}
 use Rattle.evidence.specs.Lookups.{add-here, add-other, step-zero, step-forth, step-back, step-known, step-unknown, step-ambiguous, step-ambiguous-back}
 use Rattle.evidence.specs.Loops.{pass-append}
+use Rattle.mints.specs.Bytes.{mintWidth}
 use Rattle.mints.specs.Cells.{mintAt, stateAt, held}
 use Rattle.mints.specs.Pass.{handAt, stepAt, filledAt, passTo}
 use Rattle.mints.proofs.Passing as passing
@@ -32,7 +33,7 @@ module _ {n : ℕ} {α : ℕ → Key} {r₀ : Table} (p : Apart n α) {w : List 
   unfolding held was
   handed a b z k l q o =
       let e : length (mintAt w a) ≡ 32 = simp (length-take, length-drop) (omega (arith, h .now .long)) in
-      let f : b * 65 + 65 ≤ length w = omega (arith, h .now .long) in
+      let f : b * mintWidth + mintWidth ≤ length w = omega (arith, h .now .long) in
       let s = states-here w b (mintAt w a) e 3 f in
       let m = mint-here w b (mintAt w a) e 3 f in
       let g : lookup t (α b) ≡ none = h .now .said b z l ∙ rw q in (

@@ -15,10 +15,12 @@ use mathlib.Core.Logic.{by-cases}
 use Rattle.wire.specs.Sets.{sets-append, sets-after}
 use Rattle.wire.specs.Zeros.{zeros, zeros-at}
 use Rattle.ids.specs.Keys.{zeroKey}
+use Rattle.evidence.specs.MintTable.{MintRow}
+use Rattle.mints.specs.Bytes.{mintWidth, mintRow}
 use Rattle.mints.specs.Cells.{mintAt, stateAt, Fits}
 use Rattle.mints.specs.Order.{rowBytes, rowsBytes, mintOf, mintsTo, Blank}
 
-pub mint-length : (t : List ℕ) (r : ℕ) → r * 65 + 65 ≤ length t → length (mintOf t r) ≡ 32
+pub mint-length : (t : List ℕ) (r : ℕ) → r * mintWidth + mintWidth ≤ length t → length (mintOf t r) ≡ 32
 unfolding mintOf zeroKey
 mint-length t r h = go (ltb 1 (stateAt t r))
   where
@@ -49,7 +51,11 @@ pub mints-blank : (out t row : List ℕ) (n : ℕ) → Fits t row → out ≡ ze
 mints-blank out t row n f e k h =
     sets-after out 0 (mintsTo t row n) k (omega (arith, mints-length t row n f)) ∙ (ap (λ (l : List ℕ). getD l k 0) e ∙ zeros-at (length out) k)
 
-row-length : (t : List ℕ) (r : ℕ) → r * 65 + 65 ≤ length t → length (rowBytes t r) ≡ 65
+-- a row of the mint table has the width of the table, where its account and its mint are keys
+pub mint-row-length : (r : MintRow) → length (r .0) ≡ 32 → length (r .1) ≡ 32 → length (mintRow r) ≡ mintWidth
+mint-row-length r a m = simp length-append (omega arith)
+
+row-length : (t : List ℕ) (r : ℕ) → r * mintWidth + mintWidth ≤ length t → length (rowBytes t r) ≡ mintWidth
 unfolding rowBytes
 row-length t r h = simp (length-append, length-take, length-drop) (omega arith)
 
@@ -63,8 +69,8 @@ pub rows-next : (t l : List ℕ) (j : ℕ) → j < length l → rowsBytes t (tak
 unfolding rowsBytes
 rows-next t l j h = rw (add-one, take-suc l j 0 h, rows-append, append-nil)
 
--- 65 bytes for each row
-pub rows-length : (t l : List ℕ) → Fits t l → length (rowsBytes t l) ≡ length l * 65
+-- whole rows
+pub rows-length : (t l : List ℕ) → Fits t l → length (rowsBytes t l) ≡ length l * mintWidth
 unfolding rowsBytes
 rows-length t [] f = refl
 rows-length t (r ∷ l) f = rw length-append (omega (arith, rows-length t l (λ i. f (suc i)), row-length t r (f 0)))
@@ -80,8 +86,8 @@ fits-take t o j k h q f i =
     (rw (List·getD-eq-default (take k o) 0 {n = k} (simp length-take (omega arith))) at (f k)))
 
 -- a row is its 64 bytes and its mark
-pub row-put : (out t : List ℕ) (i r : ℕ) → r * 65 + 65 ≤ length t → set (sets out i (take 64 (drop (r * 65) t))) (i + 64) (stateAt t r - 2) ≡ sets out i (rowBytes t r)
+pub row-put : (out t : List ℕ) (i r : ℕ) → r * mintWidth + mintWidth ≤ length t → set (sets out i (take 64 (drop (r * mintWidth) t))) (i + 64) (stateAt t r - 2) ≡ sets out i (rowBytes t r)
 unfolding rowBytes
 row-put out t i r h =
-    let n : length (take 64 (drop (r * 65) t)) ≡ 64 = simp (length-take, length-drop) (omega arith) in
+    let n : length (take 64 (drop (r * mintWidth) t)) ≡ 64 = simp (length-take, length-drop) (omega arith) in
     rw (sets-append, n)

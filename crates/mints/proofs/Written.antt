@@ -26,7 +26,7 @@ use Rattle.evidence.specs.Ascending.{Ascending, asc-nil, ascending-put, ascendi
 use Rattle.evidence.specs.Written as theory
 use Rattle.mints.specs.Cells.{accountAt, mintAt, stateAt, held}
 use Rattle.mints.specs.Order.{spotIn, putIn, sortTo, rowBytes, rowsBytes, mintOf, mintsTo}
-use Rattle.mints.specs.Bytes.{tableBytes, orZero, mintsOf}
+use Rattle.mints.specs.Bytes.{mintWidth, tableBytes, orZero, mintsOf}
 use Rattle.mints.proofs.Sorting.{spot-bound, spot-before, spot-at, sorted-mem, mem-sorted, getD-mem}
 use Rattle.mints.proofs.Holding.{Apart, was}
 use Rattle.mints.proofs.Stepped.{Held}
@@ -62,7 +62,7 @@ row-eq e f g = rw (e, f, g)
 pub cells-bytes : (t l : List ℕ) → rowsBytes t l ≡ tableBytes (map (cell t) l)
 unfolding rowsBytes rowBytes tableBytes cell
 cells-bytes t [] = refl
-cells-bytes t (r ∷ l) = rw (cells-bytes t l, take-add 32 32 (drop (r * 65) t), drop-drop 32 (r * 65) t)
+cells-bytes t (r ∷ l) = rw (cells-bytes t l, take-add 32 32 (drop (r * mintWidth) t), drop-drop 32 (r * mintWidth) t)
 
 module _ {n : ℕ} {α : ℕ → Key} {e : Evidence} {ps : Transfers} {t : Table} (p : Apart n α) (s : Settled e ps t) {w v : List ℕ} (h : Held n α (recorded e) w t) (m : Marked n α t ps w v) where
   account-is : (r : ℕ) → r < n → accountAt v r ≡ α r

@@ -6,6 +6,10 @@ use mathlib.Core.List.{List, [], _∷_, _++_}
 use Rattle.ids.specs.Keys.{Key, zeroKey}
 use Rattle.evidence.specs.MintTable.{MintRow, mintIn}
 
+-- the bytes of a row of table 0, and of the working table, whose rows have a state in the place of the mark
+abbrev pub mintWidth : ℕ
+mintWidth = 65
+
 -- a row of table 0: account, mint, mark
 abbrev pub mintRow : MintRow → List ℕ
 mintRow r = r .0 ++ r .1 ++ (r .2 ∷ [])

@@ -1,4 +1,4 @@
--- The working table: 65-byte rows, an account, a mint and a state.
+-- The working table: each row is an account, a mint and a state.
 -- Assumes nothing.
 use Prim.Native.Nat.{ℕ, zero, suc, _+_, _*_, _≤_, _<_}
 use mathlib.Core.Logic.{_≢_}
@@ -9,30 +9,31 @@ use lib.ListN.{length, getD, take, drop, set}
 use lib.Seq.{sets}
 use Rattle.wire.specs.Same.{same}
 use Rattle.ids.specs.Keys.{Key, zeroKey}
+use Rattle.mints.specs.Bytes.{mintWidth}
 
 -- the account of row r
 abbrev pub accountAt : List ℕ → ℕ → Key
-accountAt t r = take 32 (drop (r * 65) t)
+accountAt t r = take 32 (drop (r * mintWidth) t)
 
 -- the mint of row r
 abbrev pub mintAt : List ℕ → ℕ → Key
-mintAt t r = take 32 (drop (r * 65 + 32) t)
+mintAt t r = take 32 (drop (r * mintWidth + 32) t)
 
 -- the state of row r: 0 no mint, 1 ambiguous, 2 recorded, 3 filled in, 4 filled in and joined to another mint
 abbrev pub stateAt : List ℕ → ℕ → ℕ
-stateAt t r = getD t (r * 65 + 64) 0
+stateAt t r = getD t (r * mintWidth + 64) 0
 
 -- every row number of a list is that of a whole row
 abbrev pub Fits : List ℕ → List ℕ → Type 0
-Fits t l = (i : ℕ) → getD l i 0 * 65 + 65 ≤ length t
+Fits t l = (i : ℕ) → getD l i 0 * mintWidth + mintWidth ≤ length t
 
 -- the table with a mint and a state in row r
 unfoldable pub withMint : List ℕ → ℕ → Key → ℕ → List ℕ
-withMint t r m s = set (sets t (r * 65 + 32) m) (r * 65 + 64) s
+withMint t r m s = set (sets t (r * mintWidth + 32) m) (r * mintWidth + 64) s
 
 -- the table with a state in row r
 unfoldable pub withState : List ℕ → ℕ → ℕ → List ℕ
-withState t r s = set t (r * 65 + 64) s
+withState t r s = set t (r * mintWidth + 64) s
 
 -- what a state and a mint say of an account; the zero key tells an ambiguous one
 unfoldable pub held : ℕ → Key → Option Key
@@ -47,7 +48,7 @@ firstFrom t k (suc f) i = let rest = firstFrom t k f (suc i) in cond (same (acco
 
 -- an array has something other than 0 at the last byte of each of the first n rows' accounts
 abbrev pub Ends : List ℕ → ℕ → List ℕ → Type 0
-Ends t n ends = (r : ℕ) → r < n → getD ends (getD t (r * 65 + 31) 0) 0 ≢ 0
+Ends t n ends = (r : ℕ) → r < n → getD ends (getD t (r * mintWidth + 31) 0) 0 ≢ 0
 
 -- the first of n rows whose account is k, and n where there is none
 abbrev pub firstRow : List ℕ → Key → ℕ → ℕ

@@ -7,6 +7,7 @@ use lib.Dec.{eqb}
 use lib.ListN.{set}
 use lib.Seq.{sets}
 use Rattle.ids.specs.Keys.{Key}
+use Rattle.mints.specs.Bytes.{mintWidth}
 use Rattle.mints.specs.Cells.{firstRow, withState}
 
 -- the table, the row of each key index, and how many rows there are
@@ -19,7 +20,7 @@ pub record Laid : Type 0 where
 unfoldable pub layAt : Laid → ℕ → Key → ℕ → Laid
 layAt s i k r =
     record {
-      table = cond (eqb r (s .rows)) (sets (s .table) (r * 65) k) (s .table);
+      table = cond (eqb r (s .rows)) (sets (s .table) (r * mintWidth) k) (s .table);
       row = set (s .row) i r;
       rows = cond (eqb r (s .rows)) (suc (s .rows)) (s .rows);
     }

@@ -8,6 +8,7 @@ use lib.Dec.{ltb}
 use lib.ListN.{getD, take, drop}
 use Rattle.ids.specs.Keys.{Key, zeroKey}
 use Rattle.evidence.specs.Keys.{ltKey}
+use Rattle.mints.specs.Bytes.{mintWidth}
 use Rattle.mints.specs.Cells.{accountAt, mintAt, stateAt}
 
 -- the first place of the list l whose row has a greater account than row r
@@ -31,7 +32,7 @@ sortTo t (suc r) = let l = sortTo t r in cond (ltb 1 (stateAt t r)) (putIn l (sp
 
 -- a row as it is written: account, mint, mark
 unfoldable pub rowBytes : List ℕ → ℕ → List ℕ
-rowBytes t r = take 64 (drop (r * 65) t) ++ ((stateAt t r - 2) ∷ [])
+rowBytes t r = take 64 (drop (r * mintWidth) t) ++ ((stateAt t r - 2) ∷ [])
 
 unfoldable pub rowsBytes : List ℕ → List ℕ → List ℕ
 rowsBytes t [] = []

@@ -1,17 +1,18 @@
 -- The working table when all evidence is noted, and the plain transfers as row numbers.
 -- Assumes nothing.
-use Prim.Native.Nat.{ℕ, _/_}
+use Prim.Native.Nat.{ℕ, _*_, _/_}
 use mathlib.Core.List.{List}
 use lib.ListN.{length}
 use Rattle.wire.specs.Zeros.{zeros}
 use Rattle.ids.specs.Keys.{keyCount, keyOf}
+use Rattle.mints.specs.Bytes.{mintWidth}
 use Rattle.mints.specs.Lay.{Laid, laid}
 use Rattle.mints.specs.Note.{balancesTo}
 use Rattle.mints.specs.Gather.{Gathered, gatherTo}
 
--- 257 rows of 65 bytes for at most 256 keys and the zero key
+-- 257 rows, for at most 256 keys and the zero key
 unfoldable pub laidOf : List ℕ → Laid
-laidOf ks = laid (keyOf ks) (zeros 16705) (zeros 256) (keyCount ks)
+laidOf ks = laid (keyOf ks) (zeros (257 * mintWidth)) (zeros 256) (keyCount ks)
 
 -- the balance rows are noted
 abbrev pub begun : List ℕ → List ℕ → Gathered

@@ -3,11 +3,12 @@
 // `infer` answers how many rows table 0 needs and has, and after how many passes; it leaves these rows, ascending by account, and the final mint of each
 // key index, and the number of each invocation's program. Each key is searched once, in a linear table; evidence, passes, marks and lookups go by row numbers.
 ghost use mathlib.Core.Path.{_≡_};
-ghost use Prim.Native.Nat.{_≤_};
+ghost use Prim.Native.Nat.{_*_, _≤_};
 ghost use lib.ListN.{length, take};
 ghost use lib.Seq.{sets};
 ghost use Rattle.wire.specs.Zeros.{zeros};
 ghost use Rattle.ids.specs.Keys.{keyCount, keyOf};
+ghost use Rattle.mints.specs.Bytes.{mintWidth};
 ghost use Rattle.mints.specs.Cells.{Fits};
 ghost use Rattle.mints.specs.Programs.{programsOf};
 ghost use Rattle.mints.specs.Prepare.{laidOf, gatheredOf};
@@ -18,6 +19,9 @@ mod notes;
 mod order;
 mod pass;
 mod table;
+
+// The bytes of a row of table 0, and of the working table, whose rows have a state in the place of the mark.
+pub const WIDTH: usize = 65;
 
 // The room that table 0 needs, its rows, and the passes; or that the passes are too many.
 pub enum Inferred {
@@ -45,7 +49,7 @@ fn prepare(
     programs: &mut [u8; 1024],
 ) -> Ready
     requires { ⌜ (length (now keys) ≤ 8448) × (length (now at) ≤ 1024) ⌝ }
-    requires { ⌜ (now table ≡ zeros 16705) × (now row ≡ zeros 256) × (now from ≡ zeros 1024) × (now to ≡ zeros 1024) ⌝ }
+    requires { ⌜ (now table ≡ zeros (257 * mintWidth)) × (now row ≡ zeros 256) × (now from ≡ zeros 1024) × (now to ≡ zeros 1024) ⌝ }
     ensures { λ r. ⌜ (gatheredOf (now (keys .entry)) (now (balances .entry)) (now (pack .entry)) (now (at .entry)) ≡ record { noted = record { table = now (table .exit); room = r .room }; from = now (from .exit); to = now (to .exit); count = r .count }) × (now (row .exit) ≡ laidOf (now (keys .entry)) .row) × (r .rows ≡ laidOf (now (keys .entry)) .rows) ⌝ }
     ensures { λ _. ⌜ now (programs .exit) ≡ sets (now (programs .entry)) 0 (programsOf (now (keys .entry)) (now (pack .entry)) (now (at .entry))) ⌝ }
 {
@@ -68,7 +72,7 @@ fn publish(
     out: &mut [u8],
     known: &mut [u8],
 ) -> usize
-    requires { ⌜ (rows ≤ 257) × (n ≤ length (now row)) × (n ≤ 256) × (length (now table) ≡ 16705) × Fits (now table) (now row) ⌝ }
+    requires { ⌜ (rows ≤ 257) × (n ≤ length (now row)) × (n ≤ 256) × (length (now table) ≡ 257 * mintWidth) × Fits (now table) (now row) ⌝ }
     requires { ⌜ now known ≡ zeros (length (now known)) ⌝ }
     ensures { λ k. ⌜ (k ≡ length (sortTo (now (table .entry)) rows)) × (now (out .exit) ≡ sets (now (out .entry)) 0 (rowsBytes (now (table .entry)) (sortTo (now (table .entry)) rows))) × (now (known .exit) ≡ sets (now (known .entry)) 0 (mintsTo (now (table .entry)) (now (row .entry)) n)) ⌝ }
 {
@@ -94,7 +98,7 @@ fn work(
     programs: &mut [u8; 1024],
 ) -> Inferred
     requires { ⌜ (length (now keys) ≤ 8448) × (length (now at) ≤ 1024) ⌝ }
-    requires { ⌜ (now table ≡ zeros 16705) × (now row ≡ zeros 256) × (now from ≡ zeros 1024) × (now to ≡ zeros 1024) ⌝ }
+    requires { ⌜ (now table ≡ zeros (257 * mintWidth)) × (now row ≡ zeros 256) × (now from ≡ zeros 1024) × (now to ≡ zeros 1024) ⌝ }
     requires { ⌜ now known ≡ zeros (length (now known)) ⌝ }
     ensures { λ r. ⌜ r ≡ answerOf (inferredIn (now (keys .entry)) (now (balances .entry)) (now (pack .entry)) (now (at .entry))) ⌝ }
     ensures { λ _. ⌜ now (rows .exit) ≡ sets (now (rows .entry)) 0 (rowsOf (inferredIn (now (keys .entry)) (now (balances .entry)) (now (pack .entry)) (now (at .entry)))) ⌝ }
@@ -151,7 +155,7 @@ pub fn infer(
     *known = [0u8; 8192];
     let keys = first_keys(keys);
     let at = first_offsets(at);
-    let mut table = [0u8; 16705];
+    let mut table = [0u8; 257 * WIDTH];
     let mut row = [0u32; 256];
     let mut from = [0u32; 1024];
     let mut to = [0u32; 1024];

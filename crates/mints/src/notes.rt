@@ -7,10 +7,12 @@ ghost use lib.ListN.{length, getD};
 ghost use lib.Seq.{sets};
 ghost use Rattle.wire.specs.Same.{same};
 ghost use Rattle.ids.specs.Keys.{zeroKey, keyAt, keyCount, keyOf};
+ghost use Rattle.mints.specs.Bytes.{mintWidth};
 ghost use Rattle.mints.specs.Cells.{Fits};
 ghost use Rattle.mints.specs.Gather.{rowOf, noteAccount, observed, isPlain, Gathers};
 ghost use Rattle.mints.specs.Note.{recordAt, newAt, balancesTo};
 ghost use Rattle.mints.specs.Programs.{programsOf};
+use crate::WIDTH;
 use token::Token;
 
 // The row of a key index: row 0, the zero key's, past the keys.
@@ -34,30 +36,30 @@ fn is_zero(mint: &[u8]) -> bool
 
 // Records a mint in a row; answers how many accounts more are recorded.
 pub(crate) fn note(table: &mut [u8], r: usize, mint: &[u8]) -> usize
-    requires { ⌜ (length (now mint) ≡ 32) × (r * 65 + 65 ≤ length (now table)) ⌝ }
+    requires { ⌜ (length (now mint) ≡ 32) × (r * mintWidth + mintWidth ≤ length (now table)) ⌝ }
     ensures { λ n. ⌜ (now (table .exit) ≡ recordAt (now (table .entry)) r (now (mint .entry))) × (n ≡ newAt (now (table .entry)) r (now (mint .entry))) ⌝ }
 {
-    let state = table[r * 65 + 64];
+    let state = table[r * WIDTH + 64];
     if state == 0 {
         if is_zero(mint) {
             return 0;
         }
-        wire::put(table, r * 65 + 32, mint);
-        table[r * 65 + 64] = 2;
+        wire::put(table, r * WIDTH + 32, mint);
+        table[r * WIDTH + 64] = 2;
         return 1;
     }
     if state != 2 {
         return 0;
     }
     // Most mints are the recorded one, and that one is not zero.
-    let at = r * 65 + 32;
+    let at = r * WIDTH + 32;
     if wire::equal(mint, &table[at..at + 32]) {
         return 0;
     }
     if is_zero(mint) {
         return 0;
     }
-    table[r * 65 + 64] = 1;
+    table[r * WIDTH + 64] = 1;
     0
 }
 

@@ -1,4 +1,5 @@
 // The table as it is written: rows with a mint, ascending by account bytes; and the mint of each key index.
+use crate::WIDTH;
 ghost use mathlib.Core.Path.{_≡_};
 ghost use Prim.Native.Nat.{suc, _+_, _-_, _*_, _≤_, _<_};
 ghost use mathlib.Core.Bool.{true};
@@ -6,6 +7,7 @@ ghost use lib.ListN.{length, take, drop};
 ghost use lib.Seq.{sets};
 ghost use Rattle.wire.specs.Zeros.{zeros};
 ghost use Rattle.evidence.specs.Keys.{ltKey};
+ghost use Rattle.mints.specs.Bytes.{mintWidth};
 ghost use Rattle.mints.specs.Cells.{Fits};
 ghost use Rattle.mints.specs.Order.{spotIn, Rising, putIn, sortTo, rowsBytes, mintOf, Blank, mintsTo};
 
@@ -49,15 +51,15 @@ fn less(a: &[u8], b: &[u8]) -> bool
 
 // The place of row r among the first k of the ordered rows: before the first whose account is greater. They ascend, so it is found by halving.
 fn spot(table: &[u8], order: &[u32], k: usize, r: usize) -> usize
-    requires { ⌜ (k ≤ length (now order)) × (r * 65 + 65 ≤ length (now table)) × Fits (now table) (take k (now order)) × Rising (now table) (take k (now order)) ⌝ }
+    requires { ⌜ (k ≤ length (now order)) × (r * mintWidth + mintWidth ≤ length (now table)) × Fits (now table) (take k (now order)) × Rising (now table) (take k (now order)) ⌝ }
     ensures { λ j. ⌜ j ≡ spotIn (now (table .entry)) r (take k (now (order .entry))) ⌝ }
 {
-    let x = r * 65;
+    let x = r * WIDTH;
     let mut low = 0;
     let mut high = k;
     while low < high {
         let middle = (low + high) / 2;
-        let y = order[middle] as usize * 65;
+        let y = order[middle] as usize * WIDTH;
         if less(&table[x..x + 32], &table[y..y + 32]) {
             high = middle;
         } else {
@@ -82,7 +84,7 @@ fn insert(order: &mut [u32], j: usize, k: usize, r: u32)
 
 // The rows with a mint, in order; answers how many they are.
 pub(crate) fn sort(table: &[u8], rows: usize, order: &mut [u32]) -> usize
-    requires { ⌜ (rows ≤ length (now order)) × (rows * 65 ≤ length (now table)) × (length (now table) ≤ 65536) ⌝ }
+    requires { ⌜ (rows ≤ length (now order)) × (rows * mintWidth ≤ length (now table)) × (length (now table) ≤ 65536) ⌝ }
     ensures { λ k. ⌜ (k ≡ length (sortTo (now (table .entry)) rows)) × (take k (now (order .exit)) ≡ sortTo (now (table .entry)) rows) ⌝ }
 {
     let mut k = 0;
@@ -90,7 +92,7 @@ pub(crate) fn sort(table: &[u8], rows: usize, order: &mut [u32]) -> usize
     while next < rows {
         let r = next;
         next += 1;
-        if table[r * 65 + 64] <= 1 {
+        if table[r * WIDTH + 64] <= 1 {
             continue;
         }
         let j = spot(table, order, k, r);
@@ -114,20 +116,20 @@ pub(crate) fn write_rows(table: &[u8], order: &[u32], k: usize, out: &mut [u8])
 {
     let mut j = 0;
     while j < k {
-        let x = order[j] as usize * 65;
-        wire::put(out, j * 65, &table[x..x + 64]);
-        wire::put_byte(out, j * 65 + 64, mark_of(table[x + 64]));
+        let x = order[j] as usize * WIDTH;
+        wire::put(out, j * WIDTH, &table[x..x + 64]);
+        wire::put_byte(out, j * WIDTH + 64, mark_of(table[x + 64]));
         j += 1;
     }
 }
 
 // Writes the mint of row r to where the mint of key index i stands. A row with none leaves what is there, which is zero.
 fn write_mint(table: &[u8], r: usize, i: usize, out: &mut [u8])
-    requires { ⌜ (r * 65 + 65 ≤ length (now table)) × (i < 65536) × Blank (now out) (i * 32) ⌝ }
+    requires { ⌜ (r * mintWidth + mintWidth ≤ length (now table)) × (i < 65536) × Blank (now out) (i * 32) ⌝ }
     ensures { λ _. ⌜ now (out .exit) ≡ sets (now (out .entry)) (i * 32) (mintOf (now (table .entry)) r) ⌝ }
 {
-    let x = r * 65 + 32;
-    if 1 < table[r * 65 + 64] {
+    let x = r * WIDTH + 32;
+    if 1 < table[r * WIDTH + 64] {
         wire::put(out, i * 32, &table[x..x + 32]);
     }
 }

@@ -1,33 +1,35 @@
 // Plain transfers over the table: they hand a mint to the end that has none, pass after pass; afterwards they tell which filled-in mints are in doubt.
 //
 // A transfer is two row numbers, found once for each key, so a step looks at two state bytes and searches nothing.
+use crate::WIDTH;
 ghost use mathlib.Core.Path.{_≡_};
 ghost use mathlib.Core.Logic.{_≢_};
 ghost use Prim.Native.Nat.{_+_, _*_, _≤_};
 ghost use lib.ListN.{length};
+ghost use Rattle.mints.specs.Bytes.{mintWidth};
 ghost use Rattle.mints.specs.Cells.{Fits};
 ghost use Rattle.mints.specs.Pass.{handAt, stepAt, filledAt, passTo, passes, differAt, doubtAt, doubtsTo};
 
 // Copies the mint of row a to row b, which is then filled in.
 fn hand(table: &mut [u8], a: usize, b: usize)
-    requires { ⌜ (a ≢ b) × (a * 65 + 65 ≤ length (now table)) × (b * 65 + 65 ≤ length (now table)) ⌝ }
+    requires { ⌜ (a ≢ b) × (a * mintWidth + mintWidth ≤ length (now table)) × (b * mintWidth + mintWidth ≤ length (now table)) ⌝ }
     ensures { λ _. ⌜ now (table .exit) ≡ handAt (now (table .entry)) a b ⌝ }
 {
     let mut j = 0;
     while j < 32 {
-        table[b * 65 + 32 + j] = table[a * 65 + 32 + j];
+        table[b * WIDTH + 32 + j] = table[a * WIDTH + 32 + j];
         j += 1;
     }
-    table[b * 65 + 64] = 3;
+    table[b * WIDTH + 64] = 3;
 }
 
 // One transfer: where one end has a mint and the other has none, hands it on. Answers how many accounts are filled in.
 fn step(table: &mut [u8], a: usize, b: usize) -> usize
-    requires { ⌜ (a * 65 + 65 ≤ length (now table)) × (b * 65 + 65 ≤ length (now table)) ⌝ }
+    requires { ⌜ (a * mintWidth + mintWidth ≤ length (now table)) × (b * mintWidth + mintWidth ≤ length (now table)) ⌝ }
     ensures { λ n. ⌜ (now (table .exit) ≡ stepAt (now (table .entry)) a b) × (n ≡ filledAt (now (table .entry)) a b) ⌝ }
 {
-    let x = table[a * 65 + 64];
-    let y = table[b * 65 + 64];
+    let x = table[a * WIDTH + 64];
+    let y = table[b * WIDTH + 64];
     if x == 0 {
         if 1 < y {
             hand(table, b, a);
@@ -88,27 +90,27 @@ pub(crate) fn run(table: &mut [u8], from: &[u32], to: &[u32], n: usize, recorded
 
 // Whether both rows have a mint, and different ones.
 fn differ(table: &[u8], a: usize, b: usize) -> bool
-    requires { ⌜ (a * 65 + 65 ≤ length (now table)) × (b * 65 + 65 ≤ length (now table)) ⌝ }
+    requires { ⌜ (a * mintWidth + mintWidth ≤ length (now table)) × (b * mintWidth + mintWidth ≤ length (now table)) ⌝ }
     ensures { λ r. ⌜ r ≡ differAt (now (table .entry)) a b ⌝ }
 {
-    if table[a * 65 + 64] <= 1 {
+    if table[a * WIDTH + 64] <= 1 {
         return false;
     }
-    if table[b * 65 + 64] <= 1 {
+    if table[b * WIDTH + 64] <= 1 {
         return false;
     }
-    let x = a * 65 + 32;
-    let y = b * 65 + 32;
+    let x = a * WIDTH + 32;
+    let y = b * WIDTH + 32;
     !wire::equal(&table[x..x + 32], &table[y..y + 32])
 }
 
 // Marks a row that is filled in.
 fn doubt(table: &mut [u8], r: usize)
-    requires { ⌜ r * 65 + 65 ≤ length (now table) ⌝ }
+    requires { ⌜ r * mintWidth + mintWidth ≤ length (now table) ⌝ }
     ensures { λ _. ⌜ now (table .exit) ≡ doubtAt (now (table .entry)) r ⌝ }
 {
-    if table[r * 65 + 64] == 3 {
-        table[r * 65 + 64] = 4;
+    if table[r * WIDTH + 64] == 3 {
+        table[r * WIDTH + 64] = 4;
     }
 }
 

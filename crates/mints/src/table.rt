@@ -1,7 +1,8 @@
-// The table of accounts: 65-byte rows (account 32, mint 32, state 1), one for each distinct key.
+// The table of accounts: rows of an account (32 bytes), a mint (32) and a state (1), one for each distinct key.
 //
 // Row 0 is the zero key's. It is ambiguous (state 1) from the start, so a missing account records nothing, hands on nothing and is never written, and
 // no other function has to look for it.
+use crate::WIDTH;
 ghost use mathlib.Core.Path.{_≡_};
 ghost use mathlib.Core.Bool.{cond};
 ghost use Prim.Native.Nat.{suc, _*_, _≤_};
@@ -9,12 +10,13 @@ ghost use lib.Dec.{eqb};
 ghost use lib.ListN.{length};
 ghost use lib.Seq.{sets};
 ghost use Rattle.ids.specs.Keys.{keyCount, keyOf};
+ghost use Rattle.mints.specs.Bytes.{mintWidth};
 ghost use Rattle.mints.specs.Cells.{firstRow, Ends};
 ghost use Rattle.mints.specs.Lay.{laid};
 
 // The first of the table's rows that holds the key, or `rows` where none does.
 fn find(table: &[u8], rows: usize, key: &[u8]) -> usize
-    requires { ⌜ (length (now key) ≡ 32) × (rows * 65 ≤ length (now table)) ⌝ }
+    requires { ⌜ (length (now key) ≡ 32) × (rows * mintWidth ≤ length (now table)) ⌝ }
     ensures { λ r. ⌜ r ≡ firstRow (now (table .entry)) (now (key .entry)) rows ⌝ }
 {
     let mut i = 0;
@@ -23,13 +25,13 @@ fn find(table: &[u8], rows: usize, key: &[u8]) -> usize
             break 'rows rows;
         }
         // Accounts made in a row often differ in few bytes; the last one tells most of them apart at once.
-        if table[i * 65 + 31] != key[31] {
+        if table[i * WIDTH + 31] != key[31] {
             i += 1;
             continue 'rows;
         }
         let mut j = 0;
         while j < 32 {
-            if table[i * 65 + j] != key[j] {
+            if table[i * WIDTH + j] != key[j] {
                 i += 1;
                 continue 'rows;
             }
@@ -42,7 +44,7 @@ fn find(table: &[u8], rows: usize, key: &[u8]) -> usize
 
 // The same where `ends` tells which last bytes the rows' accounts have: a key with another one is new, and most new keys are found so without a search.
 fn row_for(table: &[u8], rows: usize, ends: &[u8; 256], key: &[u8]) -> usize
-    requires { ⌜ (length (now key) ≡ 32) × (rows * 65 ≤ length (now table)) × Ends (now table) rows (now ends) ⌝ }
+    requires { ⌜ (length (now key) ≡ 32) × (rows * mintWidth ≤ length (now table)) × Ends (now table) rows (now ends) ⌝ }
     ensures { λ r. ⌜ r ≡ firstRow (now (table .entry)) (now (key .entry)) rows ⌝ }
 {
     if ends[wire::byte(key, 31) as usize] == 0 {
@@ -53,11 +55,11 @@ fn row_for(table: &[u8], rows: usize, ends: &[u8; 256], key: &[u8]) -> usize
 
 // Adds a row for the key where the search found none; answers how many rows there are then.
 fn add(table: &mut [u8], rows: usize, r: usize, key: &[u8]) -> usize
-    requires { ⌜ suc rows * 65 ≤ length (now table) ⌝ }
-    ensures { λ n. ⌜ (now (table .exit) ≡ cond (eqb r rows) (sets (now (table .entry)) (r * 65) (now (key .entry))) (now (table .entry))) × (n ≡ cond (eqb r rows) (suc rows) rows) ⌝ }
+    requires { ⌜ suc rows * mintWidth ≤ length (now table) ⌝ }
+    ensures { λ n. ⌜ (now (table .exit) ≡ cond (eqb r rows) (sets (now (table .entry)) (r * mintWidth) (now (key .entry))) (now (table .entry))) × (n ≡ cond (eqb r rows) (suc rows) rows) ⌝ }
 {
     if r == rows {
-        wire::put(table, r * 65, key);
+        wire::put(table, r * WIDTH, key);
         return rows + 1;
     }
     rows
@@ -66,7 +68,7 @@ fn add(table: &mut [u8], rows: usize, r: usize, key: &[u8]) -> usize
 // Lays the rows of the keys into the table, and the row of each key index into `row`; answers how many rows there are. Whatever `ends` holds, the last
 // bytes of the rows are marked in it.
 fn lay_marking(keys: &[u8], table: &mut [u8], row: &mut [u32], ends: &mut [u8; 256]) -> usize
-    requires { ⌜ (keyCount (now keys) ≤ length (now row)) × (suc (keyCount (now keys)) * 65 ≤ length (now table)) × (length (now table) ≤ 65536) × (length (now ends) ≡ 256) ⌝ }
+    requires { ⌜ (keyCount (now keys) ≤ length (now row)) × (suc (keyCount (now keys)) * mintWidth ≤ length (now table)) × (length (now table) ≤ 65536) × (length (now ends) ≡ 256) ⌝ }
     ensures { λ n. ⌜ (now (table .exit) ≡ laid (keyOf (now (keys .entry))) (now (table .entry)) (now (row .entry)) (keyCount (now (keys .entry))) .table) × (now (row .exit) ≡ laid (keyOf (now (keys .entry))) (now (table .entry)) (now (row .entry)) (keyCount (now (keys .entry))) .row) × (n ≡ laid (keyOf (now (keys .entry))) (now (table .entry)) (now (row .entry)) (keyCount (now (keys .entry))) .rows) ⌝ }
 {
     let blank = [0u8; 32];
@@ -87,7 +89,7 @@ fn lay_marking(keys: &[u8], table: &mut [u8], row: &mut [u32], ends: &mut [u8; 2
 
 // The same, with an array of its own for the last bytes.
 pub(crate) fn lay(keys: &[u8], table: &mut [u8], row: &mut [u32]) -> usize
-    requires { ⌜ (keyCount (now keys) ≤ length (now row)) × (suc (keyCount (now keys)) * 65 ≤ length (now table)) × (length (now table) ≤ 65536) ⌝ }
+    requires { ⌜ (keyCount (now keys) ≤ length (now row)) × (suc (keyCount (now keys)) * mintWidth ≤ length (now table)) × (length (now table) ≤ 65536) ⌝ }
     ensures { λ n. ⌜ (now (table .exit) ≡ laid (keyOf (now (keys .entry))) (now (table .entry)) (now (row .entry)) (keyCount (now (keys .entry))) .table) × (now (row .exit) ≡ laid (keyOf (now (keys .entry))) (now (table .entry)) (now (row .entry)) (keyCount (now (keys .entry))) .row) × (n ≡ laid (keyOf (now (keys .entry))) (now (table .entry)) (now (row .entry)) (keyCount (now (keys .entry))) .rows) ⌝ }
 {
     let mut ends = [0u8; 256];

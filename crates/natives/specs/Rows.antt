@@ -1,4 +1,4 @@
--- A row of the table of native actions, 109 bytes: invocation, kind, account, source or destination, authority, lamports. Absent fields are zero.
+-- A row of the table of native actions: invocation, kind, account, source or destination, authority, lamports. Absent fields are zero.
 -- Assumes nothing.
 use Prim.Native.Nat.{ℕ}
 use mathlib.Core.List.{List, [], _∷_, _++_}
@@ -6,6 +6,10 @@ use mathlib.Core.Option.{Option, none, some}
 use Rattle.wire.specs.Le.{leBytes}
 use Rattle.ids.specs.Keys.{Key, zeroKey}
 use Rattle.natives.specs.Natives.{Action, fund, sync, close, NativeAction}
+
+-- the bytes of a row
+abbrev pub actionWidth : ℕ
+actionWidth = 109
 
 -- one row's bytes
 unfoldable pub fieldsOf : ℕ → ℕ → Key → Key → Key → ℕ → List ℕ

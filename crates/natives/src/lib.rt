@@ -17,6 +17,9 @@ ghost use Rattle.natives.specs.Numbers.{valueOf, formOf, sizedOf, heldBy
 ghost use Rattle.natives.specs.Rows.{fieldsOf, rowsOf};
 use ids::Id;
 
+// The bytes of a row.
+pub const WIDTH: usize = 109;
+
 // An action, its accounts by index bytes: fund (account, source, lamports), sync (account), close (account, destination, authority).
 pub enum Native {
     Nothing,
@@ -180,7 +183,7 @@ fn put_fields(
     requires { ⌜ (length (now held) ≡ 32) × (length (now other) ≡ 32) × (length (now authority) ≡ 32) ⌝ }
     ensures { λ _. ⌜ now (out .exit) ≡ sets (now (out .entry)) at (fieldsOf invocation kind (now (held .entry)) (now (other .entry)) (now (authority .entry)) lamports) ⌝ }
 {
-    let mut row = [0u8; 109];
+    let mut row = [0u8; WIDTH];
     wire::put_u32(&mut row, 0, invocation);
     wire::put_byte(&mut row, 4, kind);
     wire::put(&mut row, 5, held);

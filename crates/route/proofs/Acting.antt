@@ -17,6 +17,7 @@ use Rattle.natives.specs.Numbers.{valueOf, sizedOf}
 use Rattle.natives.proofs.Forms.{unsized}
 use Rattle.natives.proofs.Laws.{native-is, no-form}
 use Rattle.natives.specs.Rows.{rowBy, rowsOf}
+use Rattle.route.specs.Widths.{actionWidth}
 use Rattle.route.specs.Lay.{placed}
 use Rattle.route.specs.Known.{rowIf}
 use Rattle.route.specs.Actions.{actionCount}
@@ -42,7 +43,7 @@ module _ (κ : ℕ → Key) (i : ℕ) where
   row-counted (Close h d a) = refl
 
   pub row-placed : (n : Native) (out : List ℕ) (k : ℕ)
-      → sets out (k * 109) (rowsOf i (valueOf κ n)) ≡ placed 109 k (rowIf (λ a. rowBy i (a .held) (a .action)) (valueOf κ n)) out
+      → sets out (k * actionWidth) (rowsOf i (valueOf κ n)) ≡ placed actionWidth k (rowIf (λ a. rowBy i (a .held) (a .action)) (valueOf κ n)) out
   unfolding placed
   row-placed Nothing out k = refl
   row-placed (Fund h s l) out k = refl

@@ -12,6 +12,7 @@ use lib.ListN.{length}
 use Rattle.wire.specs.Zeros.{zeros}
 use Rattle.pack.specs.Verdict.{verdict, numberOf, placeOf}
 use Rattle.pack.specs.declared.Verdict.{Verdict}
+use Rattle.route.specs.Widths.{mintWidth, invocationWidth, transferWidth, legWidth, actionWidth}
 use Rattle.route.specs.declared.Answer.{Answer}
 use Rattle.route.specs.Tables.{Tables}
 use Rattle.route.specs.Route.{Lent, lent, Routed, refused, accepted, fitted, passed, tablesIn, judged, route, Leaves}
@@ -47,11 +48,11 @@ fitted-blank : (t : Tables) (l : Lent) → fitted t l .answer .number ≢ 0 → 
 unfolding fitted accepted
 fitted-blank t l n =
     choose-blank
-    (ltb (l .mints / 65) (t .room))
-    (ltb (l .invocations / 23) (length (t .invocations)))
-    (ltb (l .transfers / 150) (length (t .transfers)))
-    (ltb (l .legs / 250) (length (t .legs)))
-    (ltb (l .natives / 109) (length (t .natives)))
+    (ltb (l .mints / mintWidth) (t .room))
+    (ltb (l .invocations / invocationWidth) (length (t .invocations)))
+    (ltb (l .transfers / transferWidth) (length (t .transfers)))
+    (ltb (l .legs / legWidth) (length (t .legs)))
+    (ltb (l .natives / actionWidth) (length (t .natives)))
     l
     (accepted t l)
     refl

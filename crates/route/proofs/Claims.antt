@@ -9,6 +9,7 @@ use Prim.Native.Nat.{ℕ, _/_}
 use lib.Dec.{ltb, eqb}
 use lib.ListN.{length}
 use Rattle.pack.specs.Verdict.{verdict, numberOf, placeOf}
+use Rattle.route.specs.Widths.{mintWidth, invocationWidth, transferWidth, legWidth, actionWidth}
 use Rattle.route.specs.declared.Answer.{Answer}
 use Rattle.route.specs.Tables.{Tables}
 use Rattle.route.specs.Route.{Lent, Routed, refused, accepted, fitted, passed, tablesIn, judged, route, Leaves}
@@ -56,11 +57,11 @@ unfolding passed fitted refused accepted
 passed-counts none l n = refl
 passed-counts (some t) l n =
     fitted-counts
-    (ltb (l .mints / 65) (t .room))
-    (ltb (l .invocations / 23) (length (t .invocations)))
-    (ltb (l .transfers / 150) (length (t .transfers)))
-    (ltb (l .legs / 250) (length (t .legs)))
-    (ltb (l .natives / 109) (length (t .natives)))
+    (ltb (l .mints / mintWidth) (t .room))
+    (ltb (l .invocations / invocationWidth) (length (t .invocations)))
+    (ltb (l .transfers / transferWidth) (length (t .transfers)))
+    (ltb (l .legs / legWidth) (length (t .legs)))
+    (ltb (l .natives / actionWidth) (length (t .natives)))
     l
     (accepted t l)
     refl

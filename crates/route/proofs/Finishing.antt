@@ -15,6 +15,7 @@ use Rattle.subtrees.specs.Subtrees.{tab, positions, taken, filled, bits, hasTra
 use Rattle.subtrees.specs.Blocks.{someIn}
 use Rattle.subtrees.proofs.Arrays.{taken-all}
 use Rattle.swaps.specs.Row.{poolsOf}
+use Rattle.route.specs.Widths.{invocationWidth, transferWidth, legWidth, actionWidth}
 use Rattle.route.specs.declared.Answer.{Answer}
 use Rattle.route.specs.Arrays.{itemAt, ownAt, rowAt}
 use Rattle.route.specs.Known.{Holds, Fills, Counts, Numbers}
@@ -57,14 +58,14 @@ inside-le {ps} {own} s i = rw (s .inside-left) (tab-le (insideOf ps own) (inside
 pub record Steps (names p ms at programs outer inner height : List ℕ) (n room m passes bytes : ℕ) (r : Answer) (t1 t2 t3 t4 o1 o2 o3 o4 moved leg own ends inside : List ℕ) (c2 c3 c4 tests : ℕ) : Type 0 where
   pub few : n ≤ 1024
   pub known : Programs (sectionOf p 0) (itemAt p at) n programs
-  pub transfers : Fills ms (sectionOf p 0) (transferRows (sectionOf p 0)) (itemAt p at) 150 n c2 t2 o2
+  pub transfers : Fills ms (sectionOf p 0) (transferRows (sectionOf p 0)) (itemAt p at) transferWidth n c2 t2 o2
   pub moves : Counts ms (sectionOf p 0) (transferRows (sectionOf p 0)) (itemAt p at) n (zeros 1024) moved
-  pub legs : Fills ms (sectionOf p 0) (legRows names (sectionOf p 0) (poolsOf (sectionOf p 4))) (itemAt p at) 250 n c3 t3 o3
+  pub legs : Fills ms (sectionOf p 0) (legRows names (sectionOf p 0) (poolsOf (sectionOf p 4))) (itemAt p at) legWidth n c3 t3 o3
   pub numbers : Numbers ms (sectionOf p 0) (legRows names (sectionOf p 0) (poolsOf (sectionOf p 4))) (itemAt p at) n (zeros 1024) leg
-  pub actions : Fills ms (sectionOf p 0) (actionRows (sectionOf p 0)) (itemAt p at) 109 n c4 t4 o4
+  pub actions : Fills ms (sectionOf p 0) (actionRows (sectionOf p 0)) (itemAt p at) actionWidth n c4 t4 o4
   pub owns : own ≡ sets (zeros 1024) 0 (tab (ownAt moved leg) 0 n)
   pub blocks : Subtrees (positions outer inner height (taken n)) own tests ends inside
-  pub rows : o1 ≡ placed 23 0 (tab (rowAt programs outer inner height ends inside moved leg) 0 n) t1
+  pub rows : o1 ≡ placed invocationWidth 0 (tab (rowAt programs outer inner height ends inside moved leg) 0 n) t1
   pub answer :
       r ≡ fits (record { mints = bytes; invocations = length o1; transfers = length o2; legs = length o3; natives = length o4 }) room (record {
         number = 0;

@@ -6,6 +6,7 @@ use Prim.Native.Nat.{_/_}
 use native.Mathlib.Omega.{arith}
 use lib.Dec.{ltb}
 use lib.ListN.{length}
+use Rattle.route.specs.Widths.{mintWidth, invocationWidth, transferWidth, legWidth, actionWidth}
 use Rattle.route.specs.declared.Answer.{Answer}
 use Rattle.route.specs.Tables.{Tables}
 use Rattle.route.specs.Route.{Lent, Routed, refused, accepted, fitted}
@@ -27,11 +28,11 @@ pub fit-answer : (t : Tables) (l : Lent) → fitted t l .answer ≡ fits l (t .r
 unfolding fitted fits refused accepted
 fit-answer t l =
     answer-of
-    (ltb (l .mints / 65) (t .room))
-    (ltb (l .invocations / 23) (length (t .invocations)))
-    (ltb (l .transfers / 150) (length (t .transfers)))
-    (ltb (l .legs / 250) (length (t .legs)))
-    (ltb (l .natives / 109) (length (t .natives)))
+    (ltb (l .mints / mintWidth) (t .room))
+    (ltb (l .invocations / invocationWidth) (length (t .invocations)))
+    (ltb (l .transfers / transferWidth) (length (t .transfers)))
+    (ltb (l .legs / legWidth) (length (t .legs)))
+    (ltb (l .natives / actionWidth) (length (t .natives)))
     (refused 8 0 l)
     (refused 8 1 l)
     (refused 8 2 l)
@@ -55,11 +56,11 @@ pub fit-accepted : (t : Tables) (l : Lent) → fitted t l .answer .number ≡ 0 
 unfolding fitted
 fit-accepted t l q =
     all-false
-    (ltb (l .mints / 65) (t .room))
-    (ltb (l .invocations / 23) (length (t .invocations)))
-    (ltb (l .transfers / 150) (length (t .transfers)))
-    (ltb (l .legs / 250) (length (t .legs)))
-    (ltb (l .natives / 109) (length (t .natives)))
+    (ltb (l .mints / mintWidth) (t .room))
+    (ltb (l .invocations / invocationWidth) (length (t .invocations)))
+    (ltb (l .transfers / transferWidth) (length (t .transfers)))
+    (ltb (l .legs / legWidth) (length (t .legs)))
+    (ltb (l .natives / actionWidth) (length (t .natives)))
     l
     (accepted t l)
     q

@@ -42,6 +42,7 @@ use Rattle.mints.specs.Inference.{balanceSays, says, moves, evidenceOf, transfe
 use Rattle.subtrees.specs.Descendant.{higher, inners, descendant}
 use Rattle.subtrees.specs.Blocks.{firstNot, anyIn, countIn, sumIn, atop, testsAt}
 use Rattle.subtrees.specs.Subtrees.{tab, place, within}
+use Rattle.route.specs.Widths.{mintWidth, invocationWidth, transferWidth, legWidth}
 use Rattle.route.specs.Lay.{rowsOf, placed}
 use Rattle.route.specs.Row.{flagged, invocationRow}
 use Rattle.route.specs.Transfers.{transferOf, transferRows}
@@ -58,7 +59,7 @@ names = 143 ∷ 190 ∷ 90 ∷ 218 ∷ 196 ∷ 30 ∷ 51 ∷ 222 ∷ 55 ∷ 217 
 
 -- tables with room for every case
 abbrev pub room : Lent
-room = record { mints = 3 * 65; invocations = 5 * 23; transfers = 2 * 150; legs = 250; natives = 0 }
+room = record { mints = 3 * mintWidth; invocations = 5 * invocationWidth; transfers = 2 * transferWidth; legs = legWidth; natives = 0 }
 
 -- the pack of each case, read back, says what the case says
 abbrev pub ReadBack : List (View × Outcome) → Type 0

@@ -17,6 +17,7 @@ use Rattle.token.specs.Moved.{valueOf, sourceBy}
 use Rattle.token.specs.Rows.{rowOf, rowsOf}
 use Rattle.token.proofs.Laws.{moved-value}
 use Rattle.token.proofs.Reading.{read-none}
+use Rattle.route.specs.Widths.{transferWidth}
 use Rattle.route.specs.Lay.{placed}
 use Rattle.route.specs.Known.{rowIf}
 use Rattle.route.specs.Program.{programOf}
@@ -41,7 +42,7 @@ module _ (κ : ℕ → Key) (μ : Key → Option Key) (i : ℕ) (program : Key) 
   row-counted (FeeKnown s d a f) = refl
 
   pub row-placed : (m : Moved) → mint ≡ μ (κ (sourceBy m)) → (out : List ℕ) (k : ℕ)
-      → sets out (k * 150) (rowsOf i program mint (valueOf κ m)) ≡ placed 150 k (rowIf (λ t. rowOf i program (μ (t .source)) t) (valueOf κ m)) out
+      → sets out (k * transferWidth) (rowsOf i program mint (valueOf κ m)) ≡ placed transferWidth k (rowIf (λ t. rowOf i program (μ (t .source)) t) (valueOf κ m)) out
   unfolding placed
   row-placed Nothing h out k = refl
   row-placed (FeeUnknown s d a) h out k = rw h

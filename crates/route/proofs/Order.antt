@@ -17,6 +17,7 @@ use Rattle.evidence.specs.Order.{row-right, row-reached, row-order, row-kept, r
 use Rattle.mints.specs.Bytes.{mintRow}
 use Rattle.pack.specs.Items.{rows}
 use Rattle.pack.proofs.Rows.{row-at}
+use Rattle.route.specs.Widths.{mintWidth}
 use Rattle.route.specs.Lay.{written}
 use Rattle.route.specs.Route.{Lent, Routed, refused, accepted, route}
 use Rattle.route.specs.Order.{evidenceIn, plainsIn, mintsIn, SameEvidence, mintsLeft, Succeeds, InputTaken, NoRoom, FilledWith, FilledByChains}
@@ -29,16 +30,16 @@ pub record Left (p : List ℕ) (l : Lent) (r : Routed) : Type 0 where
   pub table : Answer
   pub is : mintsIn p ≡ some table
   pub count : r .answer .mints ≡ length (table .rows)
-  pub bytes : r .mints ≡ written 65 (map mintRow (table .rows)) (l .mints)
-  pub items : rows 65 (r .answer .mints) (r .mints) ≡ map mintRow (table .rows)
+  pub bytes : r .mints ≡ written mintWidth (map mintRow (table .rows)) (l .mints)
+  pub items : rows mintWidth (r .answer .mints) (r .mints) ≡ map mintRow (table .rows)
   pub read : mintsLeft r ≡ table .rows
 
 -- a call whose input is taken: there is a mint table, and want of room in table 0 is its alone
 record Judged (p : List ℕ) (l : Lent) (r : Routed) : Type 0 where
   table : Answer
   is : mintsIn p ≡ some table
-  short : NoRoom r → l .mints / 65 < table .room
-  full : l .mints / 65 < table .room → NoRoom r
+  short : NoRoom r → l .mints / mintWidth < table .room
+  full : l .mints / mintWidth < table .room → NoRoom r
 
 module _ {p : List ℕ} {l : Lent} where
   left-by : {r : Routed} → Ways p l r → Succeeds r → Left p l r
@@ -48,7 +49,7 @@ module _ {p : List ℕ} {l : Lent} where
   left-by (later k q h f) e = absurd (omega arith)
   left-by (good {x} t q h m f c) e =
       let s = sized p (made p q) in
-      let room : length (x .rows) ≤ l .mints / 65 = omega (arith, rows-room (made p q)) in
+      let room : length (x .rows) ≤ l .mints / mintWidth = omega (arith, rows-room (made p q)) in
       let k : length (t .mints) ≡ length (x .rows) = rw m (length-map (x .rows) mintRow) in
       record {
         table = x;
@@ -115,12 +116,12 @@ module _ (names p : List ℕ) (l : Lent) where
   pub left : Succeeds (route names p l) → Left p l (route names p l)
   left e = left-by (ways p l names) e
 
-  -- row k of them stands in the bytes from k * 65 on
+  -- row k of them stands in the bytes from k * mintWidth on
   pub left-row : (e : Succeeds (route names p l)) (k : ℕ) → k < route names p l .answer .mints
-      → take 65 (drop (k * 65) (route names p l .mints)) ≡ getD (map mintRow (left e .table .rows)) k []
+      → take mintWidth (drop (k * mintWidth) (route names p l .mints)) ≡ getD (map mintRow (left e .table .rows)) k []
   left-row e k h =
       let t = left e in
-      sym (row-at 65 (route names p l .answer .mints) (route names p l .mints) k [] h) ∙ ap (λ (x : List (List ℕ)). getD x k []) (t .items)
+      sym (row-at mintWidth (route names p l .answer .mints) (route names p l .mints) k [] h) ∙ ap (λ (x : List (List ℕ)). getD x k []) (t .items)
 
   -- its rows ascend by account
   pub left-ascends : Succeeds (route names p l) → Ascending (λ r. r .0) (mintsLeft (route names p l))

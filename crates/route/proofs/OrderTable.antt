@@ -12,6 +12,7 @@ use Rattle.wire.specs.Sets.{sets-next}
 use Rattle.pack.specs.Items.{rows}
 use Rattle.evidence.specs.MintTable.{MintRow}
 use Rattle.mints.specs.Bytes.{mintRow}
+use Rattle.route.specs.Widths.{mintWidth}
 use Rattle.route.specs.Lay.{placed, written}
 use Rattle.route.specs.Order.{mintRead, mintsRead}
 
@@ -59,7 +60,7 @@ module _ (w : ℕ) where
       )
       (rows-flat l (drop (0 + length (flat l)) (zeros n)) h)
 
--- a row of 65 bytes is read back
+-- a row is read back
 pub mint-read : (r : MintRow) → length (r .0) ≡ 32 → length (r .1) ≡ 32 → mintRead (mintRow r) ≡ r
 mint-read r h k =
     let x = r .2 ∷ [] in
@@ -81,21 +82,21 @@ map-read (r ∷ l) h =
     (mint-read r (h .account r (List·Memᴰ·head refl)) (h .mint r (List·Memᴰ·head refl)))
     (map-read l (record { account = λ x i. h .account x (List·Memᴰ·tail i); mint = λ x i. h .mint x (List·Memᴰ·tail i) }))
 
--- its rows have 65 bytes
-pub mint-rowed : (l : List MintRow) → Sized l → Rowed 65 (map mintRow l)
+-- its rows have the width of the table
+pub mint-rowed : (l : List MintRow) → Sized l → Rowed mintWidth (map mintRow l)
 mint-rowed l h = record { each = λ r i. row r i }
   where
-    row : (r : List ℕ) → List·Memᴰ r (map mintRow l) → length r ≡ 65
+    row : (r : List ℕ) → List·Memᴰ r (map mintRow l) → length r ≡ mintWidth
     row r i =
         let x = Memᴰ·of-map mintRow l i in
         rw (← x .2) (simp length-append (omega (arith, h .account (x .0) (x .1), h .mint (x .0) (x .1))))
 
 -- the rows of table 0 are those that were written
-module _ (l : List MintRow) (n : ℕ) (h : Sized l) (f : length l ≤ n / 65) where
-  pub mints-rows : rows 65 (length l) (written 65 (map mintRow l) n) ≡ map mintRow l
+module _ (l : List MintRow) (n : ℕ) (h : Sized l) (f : length l ≤ n / mintWidth) where
+  pub mints-rows : rows mintWidth (length l) (written mintWidth (map mintRow l) n) ≡ map mintRow l
   mints-rows =
       let c : length (map mintRow l) ≡ length l = length-map l mintRow in
-      ap (λ (k : ℕ). rows 65 k (written 65 (map mintRow l) n)) (sym c) ∙ rows-written 65 (map mintRow l) n (mint-rowed l h) (omega arith)
+      ap (λ (k : ℕ). rows mintWidth k (written mintWidth (map mintRow l) n)) (sym c) ∙ rows-written mintWidth (map mintRow l) n (mint-rowed l h) (omega arith)
 
-  pub mints-written : mintsRead (length l) (written 65 (map mintRow l) n) ≡ l
+  pub mints-written : mintsRead (length l) (written mintWidth (map mintRow l) n) ≡ l
   mints-written = ap (map mintRead) mints-rows ∙ map-read l h

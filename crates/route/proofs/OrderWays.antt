@@ -20,6 +20,7 @@ use Rattle.mints.specs.Bytes.{mintRow}
 use Rattle.subtrees.specs.Subtrees.{tab, testsOf}
 use Rattle.subtrees.proofs.Arrays.{tab-length}
 use Rattle.subtrees.proofs.Claims.{tests-none, tests-bound}
+use Rattle.route.specs.Widths.{mintWidth, invocationWidth, transferWidth, legWidth, actionWidth}
 use Rattle.route.specs.Tables.{Tables, positionsOf, instructionsOf, tablesWith, tablesIf, tables}
 use Rattle.route.specs.Route.{Lent, Routed, refused, accepted, fitted, passed, tablesIn, judged, route}
 use Rattle.route.specs.Order.{mintsIn}
@@ -32,9 +33,9 @@ FewTests n k = (n ≡ 0 → k ≡ 0) × (0 < n → k + 2 ≤ 2 * n)
 -- refused with a number from 1 to 6; or, with the mint table x, for want of room in table 0 or in a later table; or accepted
 pub data Ways (p : List ℕ) (l : Lent) : Routed → Type 0 where
   early : (n k : ℕ) → 0 < n → n < 7 → Ways p l (refused n k l)
-  crowded : {x : Answer} → mintsIn p ≡ some x → l .mints / 65 < x .room → Ways p l (refused 8 0 l)
-  later : {x : Answer} (k : ℕ) → mintsIn p ≡ some x → x .room ≤ l .mints / 65 → 0 < k → Ways p l (refused 8 k l)
-  good : {x : Answer} (t : Tables) → mintsIn p ≡ some x → x .room ≤ l .mints / 65 → t .mints ≡ map mintRow (x .rows) → t .passes ≤ 256
+  crowded : {x : Answer} → mintsIn p ≡ some x → l .mints / mintWidth < x .room → Ways p l (refused 8 0 l)
+  later : {x : Answer} (k : ℕ) → mintsIn p ≡ some x → x .room ≤ l .mints / mintWidth → 0 < k → Ways p l (refused 8 k l)
+  good : {x : Answer} (t : Tables) → mintsIn p ≡ some x → x .room ≤ l .mints / mintWidth → t .mints ≡ map mintRow (x .rows) → t .passes ≤ 256
       → FewTests (length (t .invocations)) (t .tests) → Ways p l (accepted t l)
 
 -- tables with the rows, the room and the passes of a mint table
@@ -70,15 +71,15 @@ module _ (p : List ℕ) (l : Lent) where
   unfolding fitted
   fitted-ways {x} t q m r s c =
       go
-      (ltb (l .mints / 65) (t .room))
-      (ltb (l .invocations / 23) (length (t .invocations)))
-      (ltb (l .transfers / 150) (length (t .transfers)))
-      (ltb (l .legs / 250) (length (t .legs)))
-      (ltb (l .natives / 109) (length (t .natives)))
-      (λ e. omega (arith, ltb-true (l .mints / 65) (t .room) e))
-      (λ e. omega (arith, ltb-false (l .mints / 65) (t .room) e))
+      (ltb (l .mints / mintWidth) (t .room))
+      (ltb (l .invocations / invocationWidth) (length (t .invocations)))
+      (ltb (l .transfers / transferWidth) (length (t .transfers)))
+      (ltb (l .legs / legWidth) (length (t .legs)))
+      (ltb (l .natives / actionWidth) (length (t .natives)))
+      (λ e. omega (arith, ltb-true (l .mints / mintWidth) (t .room) e))
+      (λ e. omega (arith, ltb-false (l .mints / mintWidth) (t .room) e))
     where
-      go : (b b1 b2 b3 b4 : Bool) → (b ≡ true → l .mints / 65 < x .room) → (b ≡ false → x .room ≤ l .mints / 65)
+      go : (b b1 b2 b3 b4 : Bool) → (b ≡ true → l .mints / mintWidth < x .room) → (b ≡ false → x .room ≤ l .mints / mintWidth)
           → Ways p l (cond b (refused 8 0 l) (cond b1 (refused 8 1 l) (cond b2 (refused 8 2 l) (cond b3 (refused 8 3 l) (cond b4 (refused 8 4 l) (accepted t l))))))
       go true b1 b2 b3 b4 f h = crowded q (f refl)
       go false true b2 b3 b4 f h = later 1 q (h refl) (omega arith)

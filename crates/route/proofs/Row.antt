@@ -17,7 +17,7 @@ use Rattle.wire.proofs.Laws.{leBytes-length}
 use Rattle.pack.specs.Invocation.{Position, lowered}
 use Rattle.route.specs.Arrays.{ownBits}
 use Rattle.route.specs.Program.{skips, resolved, programBits}
-use Rattle.route.specs.Row.{flagged, invocationRow}
+use Rattle.route.specs.Row.{invocationWidth, flagged, invocationRow}
 
 pub positive : {n : ℕ} → n ≢ 0 → 0 < n
 positive h = omega arith
@@ -35,12 +35,12 @@ unfolding flagged
 flagged-length none = ap suc (leBytes-length 4 0)
 flagged-length (some x) = ap suc (leBytes-length 4 x)
 
-row-length : (p : Position) (end bits leg : ℕ) → length (invocationRow p end bits leg) ≡ 23
+row-length : (p : Position) (end bits leg : ℕ) → length (invocationRow p end bits leg) ≡ invocationWidth
 unfolding invocationRow
 row-length p end bits leg = simp (length-append, leBytes-length, flagged-length)
 
 -- the fields, each begun where the one before it ends, fill a row
-pub fields : (l : List ℕ) (p : Position) (end bits leg : ℕ) → length l ≡ 23 → sets (set (sets (sets (sets (sets l 0 (leBytes 4 (p .outer))) 4 (flagged (p .inner))) 9 (flagged (p .height))) 14 (leBytes 4 end)) 18 bits) 19 (leBytes 4 leg) ≡ invocationRow p end bits leg
+pub fields : (l : List ℕ) (p : Position) (end bits leg : ℕ) → length l ≡ invocationWidth → sets (set (sets (sets (sets (sets l 0 (leBytes 4 (p .outer))) 4 (flagged (p .inner))) 9 (flagged (p .height))) 14 (leBytes 4 end)) 18 bits) 19 (leBytes 4 leg) ≡ invocationRow p end bits leg
 unfolding invocationRow
 fields l p end bits leg hl =
     let o = leBytes 4 (p .outer) in

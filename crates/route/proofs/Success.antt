@@ -23,6 +23,7 @@ use Rattle.mints.specs.Inference.{answerOf}
 use Rattle.subtrees.specs.Subtrees.{tab, positions}
 use Rattle.subtrees.proofs.Arrays.{tab-length}
 use Rattle.swaps.specs.Row.{poolsOf}
+use Rattle.route.specs.Widths.{mintWidth}
 use Rattle.route.specs.declared.Answer.{Answer as Reply}
 use Rattle.route.specs.Arrays.{itemAt}
 use Rattle.route.specs.Lay.{written}
@@ -106,11 +107,11 @@ module _ {names p t0 t1 t2 t3 t4 known at outer inner height : List ℕ} {n : �
   good : r .number ≡ 0 → fitted all room ≡ accepted all room
   good h = fit-accepted all room (rw (← answer-is) h)
 
-  table-0 : o0 ≡ written 65 (map mintRow (x .rows)) (length t0)
+  table-0 : o0 ≡ written mintWidth (map mintRow (x .rows)) (length t0)
   table-0 =
       s .rows
       ∙ rw (s .zero0, length-replicate)
-      (rw (← (flat-bytes (x .rows))) (sym (placed-flat 65 0 (map mintRow (x .rows)) (zeros (length t0)) (mint-rowed (x .rows) (sized p (made p (s .mints)))) ∙ rw zero-mul)))
+      (rw (← (flat-bytes (x .rows))) (sym (placed-flat mintWidth 0 (map mintRow (x .rows)) (zeros (length t0)) (mint-rowed (x .rows) (sized p (made p (s .mints)))) ∙ rw zero-mul)))
 
   pub filled : numberOf (verdict p) ≡ 0 → Filled names p t0 t1 t2 t3 t4 r o0 o1 o2 o3 o4
   unfolding judged passed accepted tablesWith

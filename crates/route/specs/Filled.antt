@@ -9,6 +9,7 @@ use Rattle.pack.specs.Verdict.{verdict}
 use Rattle.evidence.specs.MintTable.{MintRow}
 use Rattle.subtrees.specs.Subtrees.{tab, positions, testsOf}
 use Rattle.swaps.specs.Row.{poolsOf}
+use Rattle.route.specs.Widths.{invocationWidth, transferWidth, legWidth, actionWidth}
 use Rattle.route.specs.declared.Answer.{Answer}
 use Rattle.route.specs.Arrays.{itemAt}
 use Rattle.route.specs.Known.{Holds}
@@ -35,10 +36,10 @@ pub record Finished (names p ms at outer inner height : List ℕ) (n room m pass
         tests = testsOf (positions outer inner height n);
       })
   pub invocations :
-      o1 ≡ placed 23 0 (tab (invocationAt names (sectionOf p 0) (poolsOf (sectionOf p 4)) table (positions outer inner height n) (tab (itemAt p at) 0 n)) 0 (length (tab (itemAt p at) 0 n))) t1
-  pub transfers : o2 ≡ placed 150 0 (rowsOf (transferRows (sectionOf p 0) table) 0 (tab (itemAt p at) 0 n)) t2
-  pub legs : o3 ≡ placed 250 0 (rowsOf (legRows names (sectionOf p 0) (poolsOf (sectionOf p 4)) table) 0 (tab (itemAt p at) 0 n)) t3
-  pub natives : o4 ≡ placed 109 0 (rowsOf (actionRows (sectionOf p 0) table) 0 (tab (itemAt p at) 0 n)) t4
+      o1 ≡ placed invocationWidth 0 (tab (invocationAt names (sectionOf p 0) (poolsOf (sectionOf p 4)) table (positions outer inner height n) (tab (itemAt p at) 0 n)) 0 (length (tab (itemAt p at) 0 n))) t1
+  pub transfers : o2 ≡ placed transferWidth 0 (rowsOf (transferRows (sectionOf p 0) table) 0 (tab (itemAt p at) 0 n)) t2
+  pub legs : o3 ≡ placed legWidth 0 (rowsOf (legRows names (sectionOf p 0) (poolsOf (sectionOf p 4)) table) 0 (tab (itemAt p at) 0 n)) t3
+  pub natives : o4 ≡ placed actionWidth 0 (rowsOf (actionRows (sectionOf p 0) table) 0 (tab (itemAt p at) 0 n)) t4
 
 -- for whatever rows of table 0 the array holds the mints of
 abbrev pub Finishes : List ℕ → List ℕ → List ℕ → List ℕ → List ℕ → List ℕ → List ℕ → ℕ → ℕ → ℕ → ℕ → Lent → Answer → List ℕ → List ℕ → List ℕ → List ℕ → List ℕ → List ℕ → List ℕ → List ℕ → Type 0

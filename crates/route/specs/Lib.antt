@@ -5,6 +5,7 @@ pub mod Transfers
 pub mod Legs
 pub mod Actions
 pub mod Row
+pub mod Widths
 pub mod Tables
 pub mod Route
 pub mod Fit

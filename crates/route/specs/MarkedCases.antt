@@ -19,6 +19,7 @@ use Rattle.pack.specs.Flatten.{outermost}
 use Rattle.swaps.specs.Discriminators.{SELL, SWAP2}
 use Rattle.evidence.specs.MintTable.{MintRow}
 use Rattle.subtrees.specs.Subtrees.{tab}
+use Rattle.route.specs.Widths.{invocationWidth, legWidth}
 use Rattle.route.specs.Route.{Routed}
 use Rattle.route.specs.Order.{mintsLeft}
 
@@ -48,9 +49,9 @@ endRead x = le 4 x 14
 
 -- the same looked at in what a call leaves
 abbrev pub seen : Routed → Outcome → Outcome
-seen r (legs-are l) = legs-are (map partiesRead (rows 250 (r .answer .legs) (r .legs)))
-seen r (ends-are l n) = ends-are (map endRead (rows 23 (r .answer .invocations) (r .invocations))) (r .answer .tests)
-seen r (order-is l) = order-is (map positionRead (rows 23 (r .answer .invocations) (r .invocations)))
+seen r (legs-are l) = legs-are (map partiesRead (rows legWidth (r .answer .legs) (r .legs)))
+seen r (ends-are l n) = ends-are (map endRead (rows invocationWidth (r .answer .invocations) (r .invocations))) (r .answer .tests)
+seen r (order-is l) = order-is (map positionRead (rows invocationWidth (r .answer .invocations) (r .invocations)))
 seen r (mints-are l n) = mints-are (mintsLeft r) (r .answer .passes)
 seen r (transfers-are n) = transfers-are (r .answer .transfers)
 

@@ -18,6 +18,7 @@ use Rattle.evidence.specs.Passes.{Transfers}
 use Rattle.evidence.specs.Chains.{Chain}
 use Rattle.evidence.specs.MintTable.{MintRow, Answer}
 use Rattle.mints.specs.Inference.{evidenceOf, transfersOf, inferred}
+use Rattle.route.specs.Widths.{mintWidth}
 use Rattle.route.specs.Tables.{instructionsOf}
 use Rattle.route.specs.declared.Answer.{Answer as Reply}
 use Rattle.route.specs.Route.{Routed}
@@ -44,13 +45,13 @@ pub record SameEvidence (p q : List ℕ) : Type 0 where
   pub balances : List·Permᴰ (viewOf p .balances) (viewOf q .balances)
   pub invocations : List·Permᴰ (instructionsIn p) (instructionsIn q)
 
--- a row of table 0 as its 65 bytes are read: account, mint, mark
+-- a row of table 0 as its bytes are read: account, mint, mark
 abbrev pub mintRead : List ℕ → MintRow
 mintRead r = (take 32 r, take 32 (drop 32 r), getD r 64 0)
 
 -- the first n rows of table 0's bytes
 abbrev pub mintsRead : ℕ → List ℕ → List MintRow
-mintsRead n t = map mintRead (rows 65 n t)
+mintsRead n t = map mintRead (rows mintWidth n t)
 
 -- the rows that a call leaves in table 0
 abbrev pub mintsLeft : Routed → List MintRow

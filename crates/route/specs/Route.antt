@@ -13,6 +13,7 @@ use Rattle.pack.specs.View.{View, viewOf}
 use Rattle.pack.specs.Flatten.{flatten}
 use Rattle.pack.specs.Verdict.{verdict, numberOf, placeOf}
 use Rattle.pack.specs.declared.Verdict.{Verdict}
+use Rattle.route.specs.Widths.{mintWidth, invocationWidth, transferWidth, legWidth, actionWidth}
 use Rattle.route.specs.declared.Answer.{Answer}
 use Rattle.route.specs.Lay.{written}
 use Rattle.route.specs.Tables.{Tables, tables}
@@ -66,21 +67,21 @@ accepted t l =
             passes = t .passes;
             tests = t .tests;
           };
-      mints = written 65 (t .mints) (l .mints);
-      invocations = written 23 (t .invocations) (l .invocations);
-      transfers = written 150 (t .transfers) (l .transfers);
-      legs = written 250 (t .legs) (l .legs);
-      natives = written 109 (t .natives) (l .natives);
+      mints = written mintWidth (t .mints) (l .mints);
+      invocations = written invocationWidth (t .invocations) (l .invocations);
+      transfers = written transferWidth (t .transfers) (l .transfers);
+      legs = written legWidth (t .legs) (l .legs);
+      natives = written actionWidth (t .natives) (l .natives);
     }
 
 -- refusal 8 at the lowest table with too few whole rows; table 0 needs room for ambiguous accounts too
 unfoldable pub fitted : Tables → Lent → Routed
 fitted t l =
-    cond (ltb (l .mints / 65) (t .room)) (refused 8 0 l)
-    (cond (ltb (l .invocations / 23) (length (t .invocations))) (refused 8 1 l)
-    (cond (ltb (l .transfers / 150) (length (t .transfers))) (refused 8 2 l)
-    (cond (ltb (l .legs / 250) (length (t .legs))) (refused 8 3 l)
-    (cond (ltb (l .natives / 109) (length (t .natives))) (refused 8 4 l)
+    cond (ltb (l .mints / mintWidth) (t .room)) (refused 8 0 l)
+    (cond (ltb (l .invocations / invocationWidth) (length (t .invocations))) (refused 8 1 l)
+    (cond (ltb (l .transfers / transferWidth) (length (t .transfers))) (refused 8 2 l)
+    (cond (ltb (l .legs / legWidth) (length (t .legs))) (refused 8 3 l)
+    (cond (ltb (l .natives / actionWidth) (length (t .natives))) (refused 8 4 l)
     (accepted t l)))))
 
 -- refusal 7: the passes do not suffice

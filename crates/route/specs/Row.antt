@@ -1,10 +1,14 @@
--- A row of table 1, 23 bytes.
+-- A row of table 1.
 -- Assumes nothing.
 use Prim.Native.Nat.{ℕ}
 use mathlib.Core.List.{List, [], _∷_, _++_}
 use mathlib.Core.Option.{Option, none, some}
 use Rattle.wire.specs.Le.{leBytes}
 use Rattle.pack.specs.Invocation.{Position}
+
+-- the bytes of a row
+abbrev pub invocationWidth : ℕ
+invocationWidth = 23
 
 -- an optional number: flag, then four bytes
 unfoldable pub flagged : Option ℕ → List ℕ

@@ -1,12 +1,14 @@
 // Table 4: a row for each invocation that funds, syncs or closes a wrapped SOL account.
 use crate::invocations::wide;
 use crate::transfers::mint;
+use crate::width;
 use ids::Id;
 use natives::Native;
 ghost use mathlib.Core.Path.{_≡_};
 ghost use Prim.Native.Nat.{_<_, _≤_};
 ghost use lib.ListN.{length};
 ghost use Rattle.pack.specs.Invocation.{instructionAt};
+ghost use Rattle.route.specs.Widths.{actionWidth};
 ghost use Rattle.route.specs.Arrays.{itemAt};
 ghost use Rattle.route.specs.Known.{Puts, Fills};
 ghost use Rattle.route.specs.Program.{programOf, Programs};
@@ -36,7 +38,7 @@ fn put_one(
     k: usize,
 ) -> u8
     requires { ⌜ (length (now mints) ≡ 8192) × (k < 1024) × (id ≡ programOf (now keys) (instructionAt (now pack) at)) ⌝ }
-    ensures { λ r. ⌜ Puts (now (mints .entry)) (now (keys .entry)) (λ table. actionRows (now (keys .entry)) table i (instructionAt (now (pack .entry)) at)) 109 k r (now (out .entry)) (now (out .exit)) ⌝ }
+    ensures { λ r. ⌜ Puts (now (mints .entry)) (now (keys .entry)) (λ table. actionRows (now (keys .entry)) table i (instructionAt (now (pack .entry)) at)) actionWidth k r (now (out .entry)) (now (out .exit)) ⌝ }
 {
     // No other program acts, and few instructions have an action's length: nothing else is read of those.
     if !natives::acts(id) {
@@ -49,7 +51,7 @@ fn put_one(
     let accounts = pack::accounts(pack, at);
     let asked = natives::form(id, accounts, data);
     let native = natives::settle(asked, keys, accounts, mint(mints, natives::held(asked)));
-    natives::put_row(out, k * 109, i, keys, native);
+    natives::put_row(out, k * width::NATIVES, i, keys, native);
     count(native)
 }
 
@@ -64,7 +66,7 @@ pub(crate) fn put_rows(
     out: &mut [u8],
 ) -> usize
     requires { ⌜ (n ≤ 1024) × (length (now mints) ≡ 8192) × Programs (now keys) (itemAt (now pack) (now at)) n (now programs) ⌝ }
-    ensures { λ c. ⌜ Fills (now (mints .entry)) (now (keys .entry)) (actionRows (now (keys .entry))) (itemAt (now (pack .entry)) (now (at .entry))) 109 n c (now (out .entry)) (now (out .exit)) ⌝ }
+    ensures { λ c. ⌜ Fills (now (mints .entry)) (now (keys .entry)) (actionRows (now (keys .entry))) (itemAt (now (pack .entry)) (now (at .entry))) actionWidth n c (now (out .entry)) (now (out .exit)) ⌝ }
 {
     let mut k = 0;
     let mut i = 0;

@@ -1,5 +1,6 @@
 // Refusal 8: the lowest table with too few whole rows.
 use crate::Answer;
+use crate::width;
 ghost use mathlib.Core.Path.{_≡_};
 ghost use Rattle.route.specs.Fit.{refusal as refusalOf, fits};
 
@@ -32,19 +33,19 @@ pub(crate) fn fit(
 ) -> Answer
     ensures { λ r. ⌜ r ≡ fits (record { mints = mints; invocations = invocations; transfers = transfers; legs = legs; natives = natives }) room a ⌝ }
 {
-    if mints / 65 < room {
+    if mints / width::MINTS < room {
         return refusal(8, 0);
     }
-    if invocations / 23 < a.invocations as usize {
+    if invocations / width::INVOCATIONS < a.invocations as usize {
         return refusal(8, 1);
     }
-    if transfers / 150 < a.transfers as usize {
+    if transfers / width::TRANSFERS < a.transfers as usize {
         return refusal(8, 2);
     }
-    if legs / 250 < a.legs as usize {
+    if legs / width::LEGS < a.legs as usize {
         return refusal(8, 3);
     }
-    if natives / 109 < a.natives as usize {
+    if natives / width::NATIVES < a.natives as usize {
         return refusal(8, 4);
     }
     a

@@ -9,7 +9,10 @@ ghost use Rattle.route.specs.Arrays.{ownFor, ownAt, ownBits, bitsAt, row
 ghost use Rattle.subtrees.specs.Subtrees.{tab};
 ghost use Rattle.route.specs.Lay.{placed};
 ghost use Rattle.route.specs.Program.{programBits};
-ghost use Rattle.route.specs.Row.{flagged as flaggedOf, invocationRow};
+ghost use Rattle.route.specs.Row.{invocationWidth, flagged as flaggedOf, invocationRow};
+
+// The bytes of a row.
+pub(crate) const WIDTH: usize = 23;
 
 // The bits that a program's case gives: 4 where a route passes over it, 8 where it is resolved.
 fn program_bits(id: Id) -> u8
@@ -63,7 +66,7 @@ fn put_row(
 )
     ensures { λ _. ⌜ now (out .exit) ≡ sets (now (out .entry)) at (invocationRow (record { outer = outer; inner = lowered inner; height = lowered height }) end bits leg) ⌝ }
 {
-    let mut row = [0u8; 23];
+    let mut row = [0u8; WIDTH];
     wire::put_u32(&mut row, 0, outer);
     put_flagged(&mut row, 4, inner as u64);
     put_flagged(&mut row, 9, height);
@@ -152,14 +155,14 @@ pub(crate) fn put_rows(
     out: &mut [u8],
 )
     requires { ⌜ (n ≤ 1024) × ((i : ℕ) → getD (now inside) i 0 ≤ 3) ⌝ }
-    ensures { λ _. ⌜ now (out .exit) ≡ placed 23 0 (tab (rowAt (now (programs .entry)) (now (outer .entry)) (now (inner .entry)) (now (height .entry)) (now (ends .entry)) (now (inside .entry)) (now (moved .entry)) (now (leg .entry))) 0 n) (now (out .entry)) ⌝ }
+    ensures { λ _. ⌜ now (out .exit) ≡ placed invocationWidth 0 (tab (rowAt (now (programs .entry)) (now (outer .entry)) (now (inner .entry)) (now (height .entry)) (now (ends .entry)) (now (inside .entry)) (now (moved .entry)) (now (leg .entry))) 0 n) (now (out .entry)) ⌝ }
 {
     let mut i = 0;
     while i < n {
         let b = bits(programs, inside, moved, leg, i);
         put_row(
             out,
-            i * 23,
+            i * WIDTH,
             outer[i],
             inner[i],
             height[i],

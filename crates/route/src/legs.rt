@@ -1,6 +1,7 @@
 // Table 3: a row for each invocation that is a swap's leg.
 use crate::invocations::wide;
 use crate::transfers::mint;
+use crate::width;
 use ids::Id;
 use swaps::Found;
 ghost use mathlib.Core.Path.{_≡_};
@@ -8,6 +9,7 @@ ghost use Prim.Native.Nat.{suc, _*_, _<_, _≤_};
 ghost use lib.ListN.{length};
 ghost use Rattle.pack.specs.Invocation.{instructionAt};
 ghost use Rattle.swaps.specs.Row.{poolsOf};
+ghost use Rattle.route.specs.Widths.{legWidth};
 ghost use Rattle.route.specs.Arrays.{itemAt};
 ghost use Rattle.route.specs.Known.{Puts, Fills, Numbers};
 ghost use Rattle.route.specs.Legs.{legRows};
@@ -27,7 +29,7 @@ fn put_one<'a>(
     k: usize,
 ) -> u8
     requires { ⌜ (length (now mints) ≡ 8192) × (k < 1024) × (id ≡ programOf (now keys) (instructionAt (now pack) at)) ⌝ }
-    ensures { λ r. ⌜ Puts (now (mints .entry)) (now (keys .entry)) (λ table. legRows (now (names .entry)) (now (keys .entry)) (poolsOf (now (pools .entry))) table i (instructionAt (now (pack .entry)) at)) 250 k r (now (out .entry)) (now (out .exit)) ⌝ }
+    ensures { λ r. ⌜ Puts (now (mints .entry)) (now (keys .entry)) (λ table. legRows (now (names .entry)) (now (keys .entry)) (poolsOf (now (pools .entry))) table i (instructionAt (now (pack .entry)) at)) legWidth k r (now (out .entry)) (now (out .exit)) ⌝ }
 {
     // No other program has legs, so its accounts and data are not read.
     if !swaps::trades(id) {
@@ -46,7 +48,17 @@ fn put_one<'a>(
             let spent = mint(mints, leg.input);
             let bought = mint(mints, leg.output);
             let program = wide(pack::program(pack, at));
-            swaps::row::put_leg(out, k * 250, i, program, keys, leg, spent, bought, pools);
+            swaps::row::put_leg(
+                out,
+                k * width::LEGS,
+                i,
+                program,
+                keys,
+                leg,
+                spent,
+                bought,
+                pools,
+            );
             1
         }
     }
@@ -77,7 +89,7 @@ pub(crate) fn put_rows<'a>(
     leg: &mut [u32; 1024],
 ) -> usize
     requires { ⌜ (n ≤ 1024) × (length (now mints) ≡ 8192) × Programs (now keys) (itemAt (now pack) (now at)) n (now programs) ⌝ }
-    ensures { λ c. ⌜ Fills (now (mints .entry)) (now (keys .entry)) (legRows (now (names .entry)) (now (keys .entry)) (poolsOf (now (pools .entry)))) (itemAt (now (pack .entry)) (now (at .entry))) 250 n c (now (out .entry)) (now (out .exit)) ⌝ }
+    ensures { λ c. ⌜ Fills (now (mints .entry)) (now (keys .entry)) (legRows (now (names .entry)) (now (keys .entry)) (poolsOf (now (pools .entry)))) (itemAt (now (pack .entry)) (now (at .entry))) legWidth n c (now (out .entry)) (now (out .exit)) ⌝ }
     ensures { λ _. ⌜ Numbers (now (mints .entry)) (now (keys .entry)) (legRows (now (names .entry)) (now (keys .entry)) (poolsOf (now (pools .entry)))) (itemAt (now (pack .entry)) (now (at .entry))) n (now (leg .entry)) (now (leg .exit)) ⌝ }
 {
     let mut k = 0;

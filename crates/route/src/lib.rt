@@ -8,6 +8,7 @@ mod fit;
 mod invocations;
 mod legs;
 mod transfers;
+pub mod width;
 
 use fill::fill;
 use fit::refusal;

@@ -1,11 +1,13 @@
 // Table 2: a row for each invocation that gives a transfer of tokens.
 use crate::invocations::wide;
+use crate::width;
 use ids::Id;
 use token::Moved;
 ghost use mathlib.Core.Path.{_≡_};
 ghost use Prim.Native.Nat.{_<_, _≤_};
 ghost use lib.ListN.{length};
 ghost use Rattle.pack.specs.Invocation.{instructionAt};
+ghost use Rattle.route.specs.Widths.{transferWidth};
 ghost use Rattle.route.specs.Arrays.{itemAt};
 ghost use Rattle.route.specs.Known.{mintAt, Puts, Fills, Counts};
 ghost use Rattle.route.specs.Program.{programOf, Programs};
@@ -43,7 +45,7 @@ fn put_one(
     k: usize,
 ) -> u8
     requires { ⌜ (length (now mints) ≡ 8192) × (k < 1024) × (id ≡ programOf (now keys) (instructionAt (now pack) at)) ⌝ }
-    ensures { λ r. ⌜ Puts (now (mints .entry)) (now (keys .entry)) (λ table. transferRows (now (keys .entry)) table i (instructionAt (now (pack .entry)) at)) 150 k r (now (out .entry)) (now (out .exit)) ⌝ }
+    ensures { λ r. ⌜ Puts (now (mints .entry)) (now (keys .entry)) (λ table. transferRows (now (keys .entry)) table i (instructionAt (now (pack .entry)) at)) transferWidth k r (now (out .entry)) (now (out .exit)) ⌝ }
 {
     // No other program gives a transfer, so its accounts and data are not read.
     if !token::token_program(id) {
@@ -52,7 +54,7 @@ fn put_one(
     let moved = token::transfer(id, keys, pack::accounts(pack, at), pack::data(pack, at));
     token::row::put_row(
         out,
-        k * 150,
+        k * width::TRANSFERS,
         i,
         keys,
         pack::program(pack, at),
@@ -74,7 +76,7 @@ pub(crate) fn put_rows(
     moved: &mut [u8; 1024],
 ) -> usize
     requires { ⌜ (n ≤ 1024) × (length (now mints) ≡ 8192) × Programs (now keys) (itemAt (now pack) (now at)) n (now programs) ⌝ }
-    ensures { λ c. ⌜ Fills (now (mints .entry)) (now (keys .entry)) (transferRows (now (keys .entry))) (itemAt (now (pack .entry)) (now (at .entry))) 150 n c (now (out .entry)) (now (out .exit)) ⌝ }
+    ensures { λ c. ⌜ Fills (now (mints .entry)) (now (keys .entry)) (transferRows (now (keys .entry))) (itemAt (now (pack .entry)) (now (at .entry))) transferWidth n c (now (out .entry)) (now (out .exit)) ⌝ }
     ensures { λ _. ⌜ Counts (now (mints .entry)) (now (keys .entry)) (transferRows (now (keys .entry))) (itemAt (now (pack .entry)) (now (at .entry))) n (now (moved .entry)) (now (moved .exit)) ⌝ }
 {
     let mut k = 0;

@@ -1,9 +1,9 @@
 -- Rows: how long their fields are, and the search among graduated pools.
 -- Assumes nothing.
-use mathlib.Core.Path.{_≡_, refl, sym, _∙_}
+use mathlib.Core.Path.{_≡_, refl, sym, ap, _∙_, subst}
 use mathlib.Core.Bool.{Bool, true, false, cond, _&&_}
 use mathlib.Core.List.{List, [], _∷_, _++_}
-use mathlib.Core.Option.{none, some}
+use mathlib.Core.Option.{Option, none, some, Option·none-ne-some, Option·some-injective}
 use Prim.Native.Nat.{ℕ, suc, _+_, _*_, _-_, _≤_, _<_}
 use native.Mathlib.Numerals.{add-one}
 use native.Mathlib.Omega.{arith}
@@ -14,12 +14,16 @@ use Rattle.wire.specs.Le.{leBytes}
 use Rattle.wire.specs.Same.{same, same-true}
 use Rattle.wire.specs.Sets.{sets-append, sets-whole}
 use Rattle.wire.proofs.Laws.{leBytes-length}
-use Rattle.ids.specs.Keys.{Key, zeroKey, isZero, keyOf}
+use Rattle.ids.specs.declared.Id.{Id}
+use Rattle.ids.specs.Keys.{Key, zeroKey, isZero, keyOf, account}
 use Rattle.ids.specs.Mints.{isMint, mintOf, mintField}
-use Rattle.ids.proofs.Keys.{key-length, mint-length}
+use Rattle.ids.proofs.Keys.{key-length, account-length, mint-length}
 use Rattle.swaps.specs.declared.Swap.{Swap}
-use Rattle.swaps.specs.Leg.{contains, explicit, orElse, legWith}
-use Rattle.swaps.specs.Row.{keyBytes, endBytes, legRow, side, keysFrom}
+use Rattle.swaps.specs.declared.Found.{Found}
+use Rattle.swaps.specs.declared.Found.the-variants.{Nothing, Leg}
+use Rattle.swaps.specs.Leg.{RouteLeg, contains, explicit, orElse, legWith, valued}
+use Rattle.swaps.specs.Swap.{byProgram, swap}
+use Rattle.swaps.specs.Row.{legWidth, keyBytes, endBytes, legRow, side, keysFrom}
 
 -- a key that is not zero is a mint, and the zero key is none
 is-key : (key : Key) → isZero key ≡ false → length key ≡ 32 → isMint key ≡ true
@@ -44,9 +48,15 @@ pub side-mint : (m : List ℕ) (paired : Bool) (key : Key) → length key ≡ 32
 unfolding side mintOf
 side-mint m paired key h = mint-by (isMint m) paired (isZero key) m key refl refl h
 
--- a mint's field has 33 bytes
-side-length : (m : List ℕ) (paired : Bool) (key : Key) → length key ≡ 32 → length (mintField (orElse (mintOf m) (explicit paired key))) ≡ 33
-side-length m paired key h = rw (← side-mint m paired key h) (mint-length (side m paired key zeroKey))
+-- a mint's field has 33 bytes, whether the mint is known or the pair's
+side-length : (o : Option Key) (paired : Bool) (key : Key) → length (mintField o) ≡ 33 → length key ≡ 32 → length (mintField (orElse o (explicit paired key))) ≡ 33
+side-length (some m) paired key f h = f
+side-length none false key f h = f
+side-length none true key f h = go (isZero key)
+  where
+    go : (b : Bool) → length (mintField (cond b none (some key))) ≡ 33
+    go true = f
+    go false = ap suc h
 
 -- five keys have 160 bytes
 keys-length : (a b c d e : Key) → length a ≡ 32 → length b ≡ 32 → length c ≡ 32 → length d ≡ 32 → length e ≡ 32 → length (keyBytes a b c d e) ≡ 160
@@ -59,22 +69,34 @@ fields-in : (l : List ℕ) (i p : ℕ) (k m n e : List ℕ) → length k ≡ 160
     ≡ sets l 0 (leBytes 4 i ++ (p ∷ []) ++ k ++ m ++ n ++ e)
 fields-in l i p k m n e hk hm hn = simp (sets-append, length-append, leBytes-length, hk, hm, hn)
 
--- a leg's row has 250 bytes
-row-length : (i : ℕ) (ks : List ℕ) (program : ℕ) (spent bought : List ℕ) (pools : List Key) (s : Swap)
-    → length (legRow i (keyOf ks program) (legWith (keyOf ks) (mintOf spent) (mintOf bought) pools s)) ≡ 250
-unfolding legRow endBytes
-row-length i ks program spent bought pools s =
-    let l = key-length ks in
-    let k =
-    keys-length (keyOf ks program) (keyOf ks (s .pool)) (keyOf ks (s .trader)) (keyOf ks (s .input)) (keyOf ks (s .output)) (l program) (l (s .pool))
-    (l (s .trader)) (l (s .input)) (l (s .output))
-    in
-    let m = side-length spent (s .paired) (keyOf ks (s .first)) (l (s .first)) in
-    let n = side-length bought (s .paired) (keyOf ks (s .second)) (l (s .second)) in
-    simp (length-append, leBytes-length, k, m, n)
+-- a leg's row has the width of the table, where keys and known mints have theirs
+module _ (i : ℕ) (program : Key) (κ : ℕ → Key) (known-in known-out : Option Key) (pools : List Key) (hp : length program ≡ 32) (long : (j : ℕ) → length (κ j) ≡ 32) (hi : length (mintField known-in) ≡ 33) (ho : length (mintField known-out) ≡ 33) where
+  row-length : (s : Swap) → length (legRow i program (legWith κ known-in known-out pools s)) ≡ legWidth
+  unfolding legRow endBytes
+  row-length s =
+      let k = keys-length program (κ (s .pool)) (κ (s .trader)) (κ (s .input)) (κ (s .output)) hp (long (s .pool)) (long (s .trader)) (long (s .input)) (long (s .output)) in
+      let m = side-length known-in (s .paired) (κ (s .first)) hi (long (s .first)) in
+      let n = side-length known-out (s .paired) (κ (s .second)) ho (long (s .second)) in
+      simp (length-append, leBytes-length, k, m, n)
+
+-- so has the row of a leg that an instruction is
+pub leg-length : (names : List ℕ) (κ : ℕ → Key) → ((j : ℕ) → length (κ j) ≡ 32) → (id : Id) (accounts bytes : List ℕ) (μ : Key → Option Key) → ((k : Key) → length (mintField (μ k)) ≡ 33) → (pools : List Key) {l : RouteLeg}
+    → swap names κ id accounts bytes μ pools ≡ some l → (i : ℕ) (program : Key) → length program ≡ 32 → length (legRow i program l) ≡ legWidth
+unfolding swap valued
+leg-length names κ long id accounts bytes μ field pools {l} e i program hp = go (byProgram names (account κ accounts) id (length accounts) bytes) e
+  where
+    go : (f : Found) → valued (account κ accounts) μ pools f ≡ some l → length (legRow i program l) ≡ legWidth
+    go Nothing q = absurd (Option·none-ne-some l q)
+    go (Leg s) q =
+        let known-in = μ (account κ accounts (s .input)) in
+        let known-out = μ (account κ accounts (s .output)) in
+        subst
+        (λ (x : RouteLeg). length (legRow i program x) ≡ legWidth)
+        (Option·some-injective (legWith (account κ accounts) known-in known-out pools s) l q)
+        (row-length i program (account κ accounts) known-in known-out pools hp (account-length κ long accounts) (field _) (field _) s)
 
 -- its fields, stored one after the other, fill it
-pub row-in : (l : List ℕ) (i : ℕ) (ks : List ℕ) (program : ℕ) (spent bought : List ℕ) (pools : List Key) (s : Swap) → length l ≡ 250
+pub row-in : (l : List ℕ) (i : ℕ) (ks : List ℕ) (program : ℕ) (spent bought : List ℕ) (pools : List Key) (s : Swap) → length l ≡ legWidth
     → sets
     (sets
     (sets
@@ -94,10 +116,10 @@ row-in l i ks program spent bought pools s h =
     (endBytes (s .exact) (s .amount) (s .threshold) (s .mode) (eqb (s .protocol) 3 && contains pools (keyOf ks (s .pool))))
     (keys-length (keyOf ks program) (keyOf ks (s .pool)) (keyOf ks (s .trader)) (keyOf ks (s .input)) (keyOf ks (s .output))
     (k program) (k (s .pool)) (k (s .trader)) (k (s .input)) (k (s .output)))
-    (side-length spent (s .paired) (keyOf ks (s .first)) (k (s .first)))
-    (side-length bought (s .paired) (keyOf ks (s .second)) (k (s .second)))
+    (side-length (mintOf spent) (s .paired) (keyOf ks (s .first)) (mint-length spent) (k (s .first)))
+    (side-length (mintOf bought) (s .paired) (keyOf ks (s .second)) (mint-length bought) (k (s .second)))
     ∙ sets-whole l (legRow i (keyOf ks program) (legWith (keyOf ks) (mintOf spent) (mintOf bought) pools s))
-    (row-length i ks program spent bought pools s ∙ sym h)
+    (row-length i (keyOf ks program) (keyOf ks) (mintOf spent) (mintOf bought) pools (k program) k (mint-length spent) (mint-length bought) s ∙ sym h)
 
 module _ (s : List ℕ) (key : Key) (rows i : ℕ) where
   -- the next row is the key

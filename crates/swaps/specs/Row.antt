@@ -1,4 +1,4 @@
--- A row of table 3, 250 bytes.
+-- A row of table 3.
 -- Assumes nothing.
 use Prim.Native.Nat.{ℕ, zero, suc, _*_, _/_}
 use mathlib.Core.Bool.{Bool, cond}
@@ -8,6 +8,10 @@ use Rattle.wire.specs.Le.{leBytes}
 use Rattle.ids.specs.Keys.{Key}
 use Rattle.ids.specs.Mints.{isMint, mintField}
 use Rattle.swaps.specs.Leg.{RouteLeg}
+
+-- the bytes of a row
+abbrev pub legWidth : ℕ
+legWidth = 250
 
 -- a test as a byte
 abbrev pub bit : Bool → ℕ

@@ -1,4 +1,4 @@
-// A leg's row of table 3, 250 bytes.
+// A leg's row of table 3.
 use crate::Swap;
 ghost use mathlib.Core.Path.{_≡_};
 ghost use mathlib.Core.Bool.{_&&_};
@@ -10,6 +10,9 @@ ghost use Rattle.ids.specs.Keys.{keyOf};
 ghost use Rattle.ids.specs.Mints.{mintOf, mintField};
 ghost use Rattle.swaps.specs.Leg.{contains, explicit, orElse, legWith};
 ghost use Rattle.swaps.specs.Row.{bit as bitOf, keyBytes, endBytes, legRow, side as sideOf, poolsOf};
+
+// The bytes of a row.
+pub const WIDTH: usize = 250;
 
 // Whether a row is the key whose last eight bytes are `last`. Keys that are alike mostly differ there, so that one comparison settles most rows.
 fn is_key(row: &[u8], key: &[u8], last: u64) -> bool
@@ -140,7 +143,7 @@ pub fn put_leg<'a>(
     if out.len() <= at {
         return;
     }
-    let mut row = [0u8; 250];
+    let mut row = [0u8; WIDTH];
     wire::put_u32(&mut row, 0, invocation);
     wire::put_byte(&mut row, 4, leg.protocol);
     put_keys(

@@ -1,4 +1,4 @@
--- A row of the table of transfers, 150 bytes: invocation, program, source, destination, mint flag and mint, amount, fee flag and fee.
+-- A row of the table of transfers: invocation, program, source, destination, mint flag and mint, amount, fee flag and fee.
 -- Absent fields are zero.
 -- Assumes nothing.
 use Prim.Native.Nat.{ℕ}
@@ -9,6 +9,10 @@ use Rattle.wire.specs.Zeros.{zeros}
 use Rattle.ids.specs.Keys.{Key}
 use Rattle.ids.specs.Mints.{mintField}
 use Rattle.token.specs.Transfers.{Transfer}
+
+-- the bytes of a row
+abbrev pub transferWidth : ℕ
+transferWidth = 150
 
 -- a flag and a number of eight bytes
 abbrev pub feeField : Option ℕ → List ℕ

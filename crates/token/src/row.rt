@@ -9,6 +9,9 @@ ghost use Rattle.token.specs.Moved.{valueOf};
 ghost use Rattle.token.specs.Rows.{rowsOf};
 use super::Moved;
 
+// The bytes of a row.
+pub const WIDTH: usize = 150;
+
 // The fields of a row, one after the other. The row is built in an array of its own, where every field is known to fit, and put in one piece.
 fn put_fields(
     out: &mut [u8],
@@ -25,7 +28,7 @@ fn put_fields(
 )
     ensures { λ _. ⌜ now (out .exit) ≡ sets (now (out .entry)) at (leBytes 4 invocation ++ keyOf (now (keys .entry)) program ++ keyOf (now (keys .entry)) source ++ keyOf (now (keys .entry)) destination ++ mintField (mintOf (now (mint .entry))) ++ leBytes 8 amount ++ (told ∷ leBytes 8 fee)) ⌝ }
 {
-    let mut row = [0u8; 150];
+    let mut row = [0u8; WIDTH];
     wire::put_u32(&mut row, 0, invocation);
     ids::put_key(&mut row, 4, keys, program as usize);
     ids::put_key(&mut row, 36, keys, source as usize);

@@ -2,10 +2,11 @@ use Rattle.mints.proofs.Preparing.{laid-is, laid-fits, rows-laid, balan
 use Rattle.mints.specs.Lay.{Laid}
 use Rattle.mints.specs.Gather.{Gathers}
 use lib.ListN.{length, length-replicate}
-use Prim.Native.Nat.{ℕ, _/_}
+use Prim.Native.Nat.{ℕ, _*_, _/_}
 use mathlib.Core.Path.{_≡_, sym, ap, _∙_}
 use native.Mathlib.Omega.{arith}
 use borrow.Author.Needs.{needs}
+use Rattle.mints.specs.Bytes.{mintWidth}
 use Rattle.mints.proofs.prepare.Statement.{statement}
 use Rattle.mints.proofs.prepare.Tie as tie
 use Rattle.mints.proofs.prepare.Reads as reads
@@ -18,7 +19,7 @@ use Rattle.mints.proofs.table.lay.Reads as lay-reads
 lay-requires : tie.Need-lay-requires
 lay-requires c κs =
     let p = c .before .before .before .before .before .before .before .before .before .before .pre .1 in
-    let t = ap length (p .0) ∙ length-replicate {A = ℕ} 16705 0 in
+    let t = ap length (p .0) ∙ length-replicate {A = ℕ} (257 * mintWidth) 0 in
     let r = ap length (p .1) ∙ length-replicate {A = ℕ} 256 0 in
     (omega (arith, r), omega (arith, t), omega (arith, t))
 
@@ -41,7 +42,7 @@ gather-requires c κs =
     let q = c .before .before .before .before .before .before .before .before .before .before .before .before .before .before .lay .ensures in
     let b = c .before .before .before .before .before .before .before .note-balances .ensures in
     let t : length (c .before .before .before .before .before .before .before .note-balances .last .1 .1 .0) ≡ length (c .before .before .before .before .before .before .before .before .before .before .before .before .before .before .lay .last .1 .0) = c .before .before .before .before .before .before .before .note-balances .kept .1 .1 .0 in
-    let w : length (c .before .before .before .before .before .before .before .before .before .before .before .before .before .before .lay .last .1 .0) ≡ 16705 = ap length (q .0) ∙ ap (λ (x : Laid). length (x .table)) e ∙ rows-laid ks (omega arith) .whole in (
+    let w : length (c .before .before .before .before .before .before .before .before .before .before .before .before .before .before .lay .last .1 .0) ≡ 257 * mintWidth = ap length (q .0) ∙ ap (λ (x : Laid). length (x .table)) e ∙ rows-laid ks (omega arith) .whole in (
       (
         omega (arith, ap length (p .2) ∙ length-replicate {A = ℕ} 1024 0),
         omega (arith, ap length (p .3) ∙ length-replicate {A = ℕ} 1024 0),

@@ -6,7 +6,7 @@ use Rattle.mints.specs.Pass.{passes, doubtsTo}
 use Rattle.mints.specs.Inference.{answerOf, rowsOf, finalOf}
 use Rattle.ids.specs.Keys.{keyCount}
 use lib.ListN.{length, length-replicate}
-use Prim.Native.Nat.{ℕ, _≤_}
+use Prim.Native.Nat.{ℕ, _*_, _≤_}
 use mathlib.Core.Path.{_≡_, refl, sym, ap, _∙_}
 use native.Mathlib.Omega.{arith}
 use borrow.Author.Needs.{needs}
@@ -15,6 +15,7 @@ use Rattle.mints.proofs.work.Tie as tie
 use Rattle.mints.proofs.work.Reads as reads
 use Rattle.mints.proofs.work.Lts as lts
 use Rattle.ids.proofs.key_count.Reads as key-count-reads
+use Rattle.mints.specs.Bytes.{mintWidth}
 use Rattle.mints.proofs.pass.doubts.Reads as doubts-reads
 use Rattle.mints.proofs.pass.run.Reads as run-reads
 use Rattle.mints.proofs.prepare.Reads as prepare-reads
@@ -87,7 +88,7 @@ publish-requires c κs =
     let x : length (c .before .before .before .before .before .before .before .before .before .before .before .before .before .before .before .before .before .before .before .before .before .before .before .before .before .before .before .prepare .last .1 .1 .1 .1 .0) ≡ length (a .table .now) = c .before .before .before .before .before .before .before .before .before .before .before .before .before .before .before .before .before .before .before .before .before .before .before .before .before .before .before .prepare .kept .1 .1 .1 .1 .0 in
     let y : length (c .before .before .before .before .before .before .before .before .before .before .before .before .before .before .before .run .last .0) ≡ length (c .before .before .before .before .before .before .before .before .before .before .before .before .before .before .before .before .before .before .before .before .before .before .before .before .before .before .before .prepare .last .1 .1 .1 .1 .0) = c .before .before .before .before .before .before .before .before .before .before .before .before .before .before .before .run .kept .0 in
     let d : length (c .before .before .before .before .before .before .before .doubts .last .0) ≡ length (c .before .before .before .before .before .before .before .before .before .before .before .before .before .before .before .run .last .0) = c .before .before .before .before .before .before .before .doubts .kept .0 in
-    let t : length (c .before .before .before .before .before .before .before .doubts .last .0) ≡ 16705 = d ∙ y ∙ x ∙ ap length (z .0) ∙ length-replicate {A = ℕ} 16705 0 in
+    let t : length (c .before .before .before .before .before .before .before .doubts .last .0) ≡ 257 * mintWidth = d ∙ y ∙ x ∙ ap length (z .0) ∙ length-replicate {A = ℕ} (257 * mintWidth) 0 in
     let r : length (c .before .before .before .before .before .before .before .before .before .before .before .before .before .before .before .before .before .before .before .before .before .before .before .before .before .before .before .prepare .last .1 .1 .1 .1 .1 .0) ≡ length (a .row .now) = c .before .before .before .before .before .before .before .before .before .before .before .before .before .before .before .before .before .before .before .before .before .before .before .before .before .before .before .prepare .kept .1 .1 .1 .1 .1 .0 in
     let w : length (c .before .before .before .before .before .before .before .before .before .before .before .before .before .before .before .before .before .before .before .before .before .before .before .before .before .before .before .prepare .last .1 .1 .1 .1 .1 .0) ≡ 256 = r ∙ ap length (z .1) ∙ length-replicate {A = ℕ} 256 0 in
     let n = c .before .before .key-count .ensures in

@@ -13,6 +13,7 @@ use Rattle.wire.proofs.put.Reads as put-reads
 use Rattle.wire.proofs.put_byte.Reads as put-byte-reads
 use Rattle.wire.proofs.put_u32.Reads as put-u32-reads
 use Rattle.wire.proofs.put_u64.Reads as put-u64-reads
+use Rattle.natives.specs.Rows.{actionWidth}
 
 -- src/lib.rt:170:19
 slice-aggregate-put-u32 : tie.Need-slice-aggregate-put-u32
@@ -88,7 +89,7 @@ returns c =
       c .before .before .before .before .before .before .before .before .before .before .before .before .before .before .before .before .before .before .put-byte .ensures,
       c .before .before .before .before .before .before .before .before .before .before .before .before .before .before .before .before .before .before .before .before .before .put-u32 .ensures,
     )
-    (ap (sets (a .out .now) (a .at)) (fields (zeros 109) (a .invocation) (a .kind) (a .held .now) (a .other .now) (a .authority .now) (a .lamports) refl (p .0) (p .1) (p .2)))
+    (ap (sets (a .out .now) (a .at)) (fields (zeros actionWidth) (a .invocation) (a .kind) (a .held .now) (a .other .now) (a .authority .now) (a .lamports) refl (p .0) (p .1) (p .2)))
 
 pub put-fields-spec : {M : Type 1} → statement M
 put-fields-spec =

@@ -6,6 +6,7 @@ use Prim.Native.Nat.{_+_, _*_, _-_, _/_, _≤_}
 use native.Mathlib.Nat.{add-sub-cancel-left}
 use mathlib.Core.Path.{_≡_, refl, sym, _∙_}
 use native.Mathlib.Omega.{arith}
+use Rattle.mints.specs.Bytes.{mintWidth}
 use Rattle.mints.proofs.order.spot.Statement.{statement}
 use Rattle.mints.proofs.order.spot.Tie as tie
 use Rattle.mints.proofs.order.spot.Reads as reads
@@ -13,7 +14,7 @@ use Rattle.mints.proofs.order.spot.Lts as lts
 use Rattle.mints.proofs.order.less.Reads as less-reads
 
 abbrev Inv-loop : tie.InvT-loop
-Inv-loop table order k r x low₀ high₀ low high = (x ≡ r * 65) × (high ≤ k) × (low ≤ spotIn table r (take k order)) × (spotIn table r (take k order) ≤ high)
+Inv-loop table order k r x low₀ high₀ low high = (x ≡ r * mintWidth) × (high ≤ k) × (low ≤ spotIn table r (take k order)) × (spotIn table r (take k order) ≤ high)
 
 abbrev μ-loop : tie.MeasureT-loop
 μ-loop table order k r x low₀ high₀ low high = high - low

@@ -15,6 +15,7 @@ use Rattle.mints.proofs.order.write_rows.Lts as lts
 use Rattle.mints.proofs.order.mark_of.Reads as mark-of-reads
 use Rattle.wire.proofs.put.Reads as put-reads
 use Rattle.wire.proofs.put_byte.Reads as put-byte-reads
+use Rattle.mints.specs.Bytes.{mintWidth}
 
 abbrev Inv-loop : tie.InvT-loop
 Inv-loop table order k out₀ j₀ out j = (j ≤ k) × (length out ≡ length out₀) × (out ≡ sets out₀ 0 (rowsBytes table (take j order)))
@@ -110,7 +111,7 @@ loop-again c =
     let w = rows-length (a .table .now) o (fits-take (a .table .now) (a .order .now) (l .j) (a .k) (omega arith) (c .before .before .before .before .before .before .before .before .before .before .before .before .before .before .before .before .before .pre .0) (c .before .before .before .before .before .before .before .before .before .before .before .before .before .before .before .before .before .pre .2)) in (
       omega arith,
       c .before .before .put-byte .kept .0 ∙ c .before .before .before .before .before .before .before .before .put .kept .0 ∙ l .inv .1,
-      c .before .before .put-byte .ensures ∙ rw (p, c .before .before .before .mark-of .ensures, row-put (l .out) (a .table .now) (l .j * 65) r (fit-at (a .table .now) (a .order .now) (a .k) (l .j) (omega arith) (c .before .before .before .before .before .before .before .before .before .before .before .before .before .before .before .before .before .pre .2)), l .inv .2, rows-next (a .table .now) (a .order .now) (l .j) (omega (arith, c .before .before .before .before .before .before .before .before .before .before .before .before .before .before .before .before .before .pre .0))) (sets-next (a .out .now) 0 (rowsBytes (a .table .now) o) (rowBytes (a .table .now) r) (l .j * 65) (omega (arith, w, length-take-le (l .j) (a .order .now) (omega (arith, c .before .before .before .before .before .before .before .before .before .before .before .before .before .before .before .before .before .pre .0))))),
+      c .before .before .put-byte .ensures ∙ rw (p, c .before .before .before .mark-of .ensures, row-put (l .out) (a .table .now) (l .j * mintWidth) r (fit-at (a .table .now) (a .order .now) (a .k) (l .j) (omega arith) (c .before .before .before .before .before .before .before .before .before .before .before .before .before .before .before .before .before .pre .2)), l .inv .2, rows-next (a .table .now) (a .order .now) (l .j) (omega (arith, c .before .before .before .before .before .before .before .before .before .before .before .before .before .before .before .before .before .pre .0))) (sets-next (a .out .now) 0 (rowsBytes (a .table .now) o) (rowBytes (a .table .now) r) (l .j * mintWidth) (omega (arith, w, length-take-le (l .j) (a .order .now) (omega (arith, c .before .before .before .before .before .before .before .before .before .before .before .before .before .before .before .before .before .pre .0))))),
     )
 
 -- src/order.rt:88:1

@@ -5,13 +5,14 @@ use lib.ListN.{length, take, drop, length-set}
 use Prim.Native.Nat.{_+_, _*_, _-_, _≤_}
 use mathlib.Core.Path.{_≡_, refl}
 use native.Mathlib.Omega.{arith}
+use Rattle.mints.specs.Bytes.{mintWidth}
 use Rattle.mints.proofs.pass.hand.Statement.{statement}
 use Rattle.mints.proofs.pass.hand.Tie as tie
 use Rattle.mints.proofs.pass.hand.Reads as reads
 use Rattle.mints.proofs.pass.hand.Lts as lts
 
 abbrev Inv-loop : tie.InvT-loop
-Inv-loop table₀ a b j₀ table j = (j ≤ 32) × (length table ≡ length table₀) × (table ≡ sets table₀ (b * 65 + 32) (take j (drop (a * 65 + 32) table₀)))
+Inv-loop table₀ a b j₀ table j = (j ≤ 32) × (length table ≡ length table₀) × (table ≡ sets table₀ (b * mintWidth + 32) (take j (drop (a * mintWidth + 32) table₀)))
 
 abbrev μ-loop : tie.MeasureT-loop
 μ-loop table₀ a b j₀ table j = 32 - j

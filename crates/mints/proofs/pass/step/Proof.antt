@@ -5,6 +5,7 @@ use mathlib.Core.Path.{refl, ap}
 use native.Mathlib.Omega.{arith}
 use Rattle.mints.specs.Pass.{stepAt, filledAt}
 use borrow.Author.Needs.{needs}
+use Rattle.mints.specs.Bytes.{mintWidth}
 use Rattle.mints.proofs.pass.step.Statement.{statement}
 use Rattle.mints.proofs.pass.step.Tie as tie
 use Rattle.mints.proofs.pass.step.Reads as reads
@@ -39,7 +40,7 @@ slice-read-y c = search needs
 hand-requires : tie.Need-hand-requires
 hand-requires c κs =
     let t = c .before .before .before .before .before .before .args .table .now in
-    (λ e. omega (arith, ap (λ (k : ℕ). getD t (k * 65 + 64) 0) e), omega arith, omega arith)
+    (λ e. omega (arith, ap (λ (k : ℕ). getD t (k * mintWidth + 64) 0) e), omega arith, omega arith)
 
 -- src/pass.rt:34:13
 same-length : tie.Need-same-length
@@ -64,7 +65,7 @@ returns-3 c = simp (ne-eqb _ _ (c .before .if1 .left), ne-eqb _ _ (c .if3 .taken
 hand-requires-2 : tie.Need-hand-requires-2
 hand-requires-2 c κs =
     let t = c .before .before .before .before .before .before .before .args .table .now in
-    (λ e. omega (arith, ap (λ (k : ℕ). getD t (k * 65 + 64) 0) e), omega arith, omega arith)
+    (λ e. omega (arith, ap (λ (k : ℕ). getD t (k * mintWidth + 64) 0) e), omega arith, omega arith)
 
 -- src/pass.rt:43:9
 same-length-2 : tie.Need-same-length-2

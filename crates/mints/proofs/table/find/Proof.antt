@@ -7,13 +7,14 @@ use mathlib.Core.Path.{_≡_, refl, sym, _∙_}
 use borrow.Author.Count.{below-more, below-none}
 use borrow.Author.Needs.{needs}
 use native.Mathlib.Omega.{arith}
+use Rattle.mints.specs.Bytes.{mintWidth}
 use Rattle.mints.proofs.table.find.Statement.{statement}
 use Rattle.mints.proofs.table.find.Tie as tie
 use Rattle.mints.proofs.table.find.Reads as reads
 use Rattle.mints.proofs.table.find.Lts as lts
 
 abbrev Inv-loop : tie.InvT-loop
-Inv-loop table rows key i₀ j₀ i j = (i ≡ i₀) × (j ≤ 32) × ((m : ℕ) → m < j → getD table (i * 65 + m) 0 ≡ getD key m 0)
+Inv-loop table rows key i₀ j₀ i j = (i ≡ i₀) × (j ≤ 32) × ((m : ℕ) → m < j → getD table (i * mintWidth + m) 0 ≡ getD key m 0)
 
 abbrev μ-loop : tie.MeasureT-loop
 μ-loop table rows key i₀ j₀ i j = 32 - j

@@ -17,9 +17,10 @@ use Rattle.ids.proofs.key.Reads as key-reads
 use Rattle.mints.proofs.table.add.Reads as add-reads
 use Rattle.mints.proofs.table.row_for.Reads as row-for-reads
 use Rattle.wire.proofs.byte.Reads as byte-reads
+use Rattle.mints.specs.Bytes.{mintWidth}
 
 abbrev Inv-loop : tie.InvT-loop
-Inv-loop keys table₀ row₀ ends₀ blank rows₀ i₀ table row ends rows i = (i ≤ keyCount keys) × (length table ≡ length table₀) × (length row ≡ length row₀) × (rows ≤ suc i) × (suc (keyCount keys) * 65 ≤ length table) × (layTo (keyOf keys) table₀ row₀ i ≡ record { table = table; row = row; rows = rows }) × (length ends ≡ 256) × Ends table rows ends
+Inv-loop keys table₀ row₀ ends₀ blank rows₀ i₀ table row ends rows i = (i ≤ keyCount keys) × (length table ≡ length table₀) × (length row ≡ length row₀) × (rows ≤ suc i) × (suc (keyCount keys) * mintWidth ≤ length table) × (layTo (keyOf keys) table₀ row₀ i ≡ record { table = table; row = row; rows = rows }) × (length ends ≡ 256) × Ends table rows ends
 
 abbrev μ-loop : tie.MeasureT-loop
 μ-loop keys table₀ row₀ ends₀ blank rows₀ i₀ table row ends rows i = keyCount keys - i

@@ -14,11 +14,12 @@ use Rattle.route.proofs.actions.put_rows.Reads as reads
 use Rattle.route.proofs.actions.put_rows.Lts as lts
 use Rattle.route.proofs.actions.put_one.Reads as put-one-reads
 use Rattle.ids.proofs.of_number.Reads as of-number-reads
+use Rattle.route.specs.Widths.{actionWidth}
 use Rattle.route.proofs.invocations.wide.Reads as wide-reads
 
 abbrev Inv-loop : tie.InvT-loop
 Inv-loop keys programs pack n at mints out₀ k₀ i₀ out k i =
-    (i ≤ n) × (k ≤ i) × (length out ≡ length out₀) × Fills mints keys (actionRows keys) (itemAt pack at) 109 i k out₀ out
+    (i ≤ n) × (k ≤ i) × (length out ≡ length out₀) × Fills mints keys (actionRows keys) (itemAt pack at) actionWidth i k out₀ out
 
 abbrev μ-loop : tie.MeasureT-loop
 μ-loop keys programs pack n at mints out₀ k₀ i₀ out k i = n - i
@@ -27,7 +28,7 @@ abbrev μ-loop : tie.MeasureT-loop
 loop-holds : tie.Need-loop-holds Inv-loop μ-loop
 loop-holds c =
     let a = c .before .before .before .before .args in
-    (omega arith, omega arith, refl, fills-none (a .mints .now) (a .keys .now) (actionRows (a .keys .now)) (itemAt (a .pack .now) (a .at .now)) 109 (a .out .now))
+    (omega arith, omega arith, refl, fills-none (a .mints .now) (a .keys .now) (actionRows (a .keys .now)) (itemAt (a .pack .now) (a .at .now)) actionWidth (a .out .now))
 
 element-copy-out-of-number : tie.Need-element-copy-out-of-number Inv-loop μ-loop
 element-copy-out-of-number c = omega arith
@@ -89,12 +90,12 @@ loop-again c =
     let f = actionRows (a .keys .now) in
     let x = itemAt (a .pack .now) (a .at .now) in
     let r = c .before .before .before .put-one .result in
-    let one : Puts (a .mints .now) (a .keys .now) (λ table. f table (l .i) (x (l .i))) 109 (l .k) r (l .out) (c .before .before .before .put-one .last .1 .1 .1 .1 .1 .1 .0) =
+    let one : Puts (a .mints .now) (a .keys .now) (λ table. f table (l .i) (x (l .i))) actionWidth (l .k) r (l .out) (c .before .before .before .put-one .last .1 .1 .1 .1 .1 .1 .0) =
     rw (c .before .before .before .before .before .wide .ensures) at (c .before .before .before .put-one .ensures) in (
       omega arith,
       omega (arith, c .wide2 .ensures, one .few),
       c .before .before .before .put-one .kept .1 .1 .1 .1 .1 .1 .0 ∙ l .inv .2,
-      rw (c .wide2 .ensures) (fills-more (a .mints .now) (a .keys .now) f x 109 (l .i) (l .k) r (a .out .now) (l .out) _ (l .inv .3) one),
+      rw (c .wide2 .ensures) (fills-more (a .mints .now) (a .keys .now) f x actionWidth (l .i) (l .k) r (a .out .now) (l .out) _ (l .inv .3) one),
     )
 
 -- src/actions.rt:40:1

@@ -12,6 +12,7 @@ use Rattle.route.proofs.invocations.put_flagged.Reads as put-flagged-re
 use Rattle.wire.proofs.put.Reads as put-reads
 use Rattle.wire.proofs.put_byte.Reads as put-byte-reads
 use Rattle.wire.proofs.put_u32.Reads as put-u32-reads
+use Rattle.route.specs.Widths.{invocationWidth}
 
 -- src/invocations.rt:67:19
 slice-aggregate-put-u32 : tie.Need-slice-aggregate-put-u32
@@ -86,7 +87,7 @@ returns c =
       c .before .before .before .before .before .before .before .before .before .before .before .before .before .before .before .before .before .before .put-flagged .ensures,
       c .before .before .before .before .before .before .before .before .before .before .before .before .before .before .before .before .before .before .before .before .before .put-u32 .ensures,
     )
-    (ap (sets (a .out .now) (a .at)) (fields (zeros 23) (record { outer = a .outer; inner = lowered (a .inner); height = lowered (a .height) }) (a .end) (a .bits) (a .leg) refl))
+    (ap (sets (a .out .now) (a .at)) (fields (zeros invocationWidth) (record { outer = a .outer; inner = lowered (a .inner); height = lowered (a .height) }) (a .end) (a .bits) (a .leg) refl))
 
 pub put-row-spec : {M : Type 1} → statement M
 put-row-spec =

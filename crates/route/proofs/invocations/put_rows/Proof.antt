@@ -7,6 +7,7 @@ use lib.ListN.{length}
 use Prim.Native.Nat.{_-_, _≤_}
 use mathlib.Core.Path.{_≡_, refl, _∙_}
 use native.Mathlib.Omega.{arith}
+use Rattle.route.specs.Widths.{invocationWidth}
 use Rattle.route.proofs.invocations.put_rows.Statement.{statement}
 use Rattle.route.proofs.invocations.put_rows.Tie as tie
 use Rattle.route.proofs.invocations.put_rows.Reads as reads
@@ -16,7 +17,7 @@ use Rattle.route.proofs.invocations.put_row.Reads as put-row-reads
 
 abbrev Inv-loop : tie.InvT-loop
 Inv-loop n programs outer inner height ends inside moved leg out₀ i₀ out i =
-    (i ≤ n) × (length out ≡ length out₀) × (out ≡ placed 23 0 (tab (rowAt programs outer inner height ends inside moved leg) 0 i) out₀)
+    (i ≤ n) × (length out ≡ length out₀) × (out ≡ placed invocationWidth 0 (tab (rowAt programs outer inner height ends inside moved leg) 0 i) out₀)
 
 abbrev μ-loop : tie.MeasureT-loop
 μ-loop n programs outer inner height ends inside moved leg out₀ i₀ out i = n - i
@@ -94,7 +95,7 @@ loop-again c =
     let a = c .before .before .before .before .before .before .before .before .before .before .before .before .before .args in (
       omega arith,
       c .before .before .put-row .kept .0 ∙ l .inv .1,
-      placed-more 23 (rowAt (a .programs .now) (a .outer .now) (a .inner .now) (a .height .now) (a .ends .now) (a .inside .now) (a .moved .now) (a .leg .now)) (l .i) (a .out .now) (l .out) _ (l .inv .2)
+      placed-more invocationWidth (rowAt (a .programs .now) (a .outer .now) (a .inner .now) (a .height .now) (a .ends .now) (a .inside .now) (a .moved .now) (a .leg .now)) (l .i) (a .out .now) (l .out) _ (l .inv .2)
           (c .before .before .put-row .ensures ∙ rw (c .before .before .before .before .before .before .before .before .before .bits .ensures)),
     )
 

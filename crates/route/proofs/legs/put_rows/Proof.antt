@@ -14,13 +14,14 @@ use Rattle.route.proofs.legs.put_rows.Tie as tie
 use Rattle.route.proofs.legs.put_rows.Reads as reads
 use Rattle.route.proofs.legs.put_rows.Lts as lts
 use Rattle.ids.proofs.of_number.Reads as of-number-reads
+use Rattle.route.specs.Widths.{legWidth}
 use Rattle.route.proofs.invocations.wide.Reads as wide-reads
 use Rattle.route.proofs.legs.number.Reads as number-reads
 use Rattle.route.proofs.legs.put_one.Reads as put-one-reads
 
 abbrev Inv-loop : tie.InvT-loop
 Inv-loop names keys programs pack pools n at mints out₀ leg₀ k₀ i₀ out leg k i =
-    (i ≤ n) × (k ≤ i) × (length out ≡ length out₀) × Fills mints keys (legRows names keys (poolsOf pools)) (itemAt pack at) 250 i k out₀ out × Numbers mints keys (legRows names keys (poolsOf pools)) (itemAt pack at) i leg₀ leg
+    (i ≤ n) × (k ≤ i) × (length out ≡ length out₀) × Fills mints keys (legRows names keys (poolsOf pools)) (itemAt pack at) legWidth i k out₀ out × Numbers mints keys (legRows names keys (poolsOf pools)) (itemAt pack at) i leg₀ leg
 
 abbrev μ-loop : tie.MeasureT-loop
 μ-loop names keys programs pack pools n at mints out₀ leg₀ k₀ i₀ out leg k i = n - i
@@ -32,7 +33,7 @@ loop-holds c =
       omega arith,
       omega arith,
       refl,
-      fills-none (a .mints .now) (a .keys .now) (legRows (a .names .now) (a .keys .now) (poolsOf (a .pools .now))) (itemAt (a .pack .now) (a .at .now)) 250 (a .out .now),
+      fills-none (a .mints .now) (a .keys .now) (legRows (a .names .now) (a .keys .now) (poolsOf (a .pools .now))) (itemAt (a .pack .now) (a .at .now)) legWidth (a .out .now),
       numbers-none (a .mints .now) (a .keys .now) (legRows (a .names .now) (a .keys .now) (poolsOf (a .pools .now))) (itemAt (a .pack .now) (a .at .now)) (a .leg .now),
     )
 
@@ -108,13 +109,13 @@ loop-again c =
     let f = legRows (a .names .now) (a .keys .now) (poolsOf (a .pools .now)) in
     let x = itemAt (a .pack .now) (a .at .now) in
     let r = c .before .before .before .before .put-one .result in
-    let one : Puts (a .mints .now) (a .keys .now) (λ table. f table (l .i) (x (l .i))) 250 (l .k) r (l .out) (c .before .before .before .before .put-one .last .1 .1 .1 .1 .1 .1 .1 .1 .0) =
+    let one : Puts (a .mints .now) (a .keys .now) (λ table. f table (l .i) (x (l .i))) legWidth (l .k) r (l .out) (c .before .before .before .before .put-one .last .1 .1 .1 .1 .1 .1 .1 .1 .0) =
     rw (c .before .before .before .before .before .before .wide .ensures) at (c .before .before .before .before .put-one .ensures) in (
       omega arith,
       omega (arith, c .wide2 .ensures, one .few),
       c .before .before .before .before .put-one .kept .1 .1 .1 .1 .1 .1 .1 .1 .0 ∙ l .inv .2,
-      rw (c .wide2 .ensures) (fills-more (a .mints .now) (a .keys .now) f x 250 (l .i) (l .k) r (a .out .now) (l .out) _ (l .inv .3) one),
-      rw (c .before .number .ensures) (numbers-more (a .mints .now) (a .keys .now) f x 250 (l .i) (l .k) r (a .out .now) (l .out) _ (a .leg .now) (l .leg) (l .inv .4) (l .inv .3) one),
+      rw (c .wide2 .ensures) (fills-more (a .mints .now) (a .keys .now) f x legWidth (l .i) (l .k) r (a .out .now) (l .out) _ (l .inv .3) one),
+      rw (c .before .number .ensures) (numbers-more (a .mints .now) (a .keys .now) f x legWidth (l .i) (l .k) r (a .out .now) (l .out) _ (a .leg .now) (l .leg) (l .inv .4) (l .inv .3) one),
     )
 
 -- src/legs.rt:55:1

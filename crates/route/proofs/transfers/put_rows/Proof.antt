@@ -13,12 +13,13 @@ use Rattle.route.proofs.transfers.put_rows.Tie as tie
 use Rattle.route.proofs.transfers.put_rows.Reads as reads
 use Rattle.route.proofs.transfers.put_rows.Lts as lts
 use Rattle.ids.proofs.of_number.Reads as of-number-reads
+use Rattle.route.specs.Widths.{transferWidth}
 use Rattle.route.proofs.invocations.wide.Reads as wide-reads
 use Rattle.route.proofs.transfers.put_one.Reads as put-one-reads
 
 abbrev Inv-loop : tie.InvT-loop
 Inv-loop keys programs pack n at mints out₀ moved₀ k₀ i₀ out moved k i =
-    (i ≤ n) × (k ≤ i) × (length out ≡ length out₀) × Fills mints keys (transferRows keys) (itemAt pack at) 150 i k out₀ out × Counts mints keys (transferRows keys) (itemAt pack at) i moved₀ moved
+    (i ≤ n) × (k ≤ i) × (length out ≡ length out₀) × Fills mints keys (transferRows keys) (itemAt pack at) transferWidth i k out₀ out × Counts mints keys (transferRows keys) (itemAt pack at) i moved₀ moved
 
 abbrev μ-loop : tie.MeasureT-loop
 μ-loop keys programs pack n at mints out₀ moved₀ k₀ i₀ out moved k i = n - i
@@ -30,7 +31,7 @@ loop-holds c =
       omega arith,
       omega arith,
       refl,
-      fills-none (a .mints .now) (a .keys .now) (transferRows (a .keys .now)) (itemAt (a .pack .now) (a .at .now)) 150 (a .out .now),
+      fills-none (a .mints .now) (a .keys .now) (transferRows (a .keys .now)) (itemAt (a .pack .now) (a .at .now)) transferWidth (a .out .now),
       counts-none (a .mints .now) (a .keys .now) (transferRows (a .keys .now)) (itemAt (a .pack .now) (a .at .now)) (a .moved .now),
     )
 
@@ -98,13 +99,13 @@ loop-again c =
     let f = transferRows (a .keys .now) in
     let x = itemAt (a .pack .now) (a .at .now) in
     let r = c .before .before .before .put-one .result in
-    let one : Puts (a .mints .now) (a .keys .now) (λ table. f table (l .i) (x (l .i))) 150 (l .k) r (l .out) (c .before .before .before .put-one .last .1 .1 .1 .1 .1 .1 .0) =
+    let one : Puts (a .mints .now) (a .keys .now) (λ table. f table (l .i) (x (l .i))) transferWidth (l .k) r (l .out) (c .before .before .before .put-one .last .1 .1 .1 .1 .1 .1 .0) =
     rw (c .before .before .before .before .before .wide .ensures) at (c .before .before .before .put-one .ensures) in (
       omega arith,
       omega (arith, c .wide2 .ensures, one .few),
       c .before .before .before .put-one .kept .1 .1 .1 .1 .1 .1 .0 ∙ l .inv .2,
-      rw (c .wide2 .ensures) (fills-more (a .mints .now) (a .keys .now) f x 150 (l .i) (l .k) r (a .out .now) (l .out) _ (l .inv .3) one),
-      counts-more (a .mints .now) (a .keys .now) f x 150 (l .i) (l .k) r (l .out) _ (a .moved .now) (l .moved) (l .inv .4) one,
+      rw (c .wide2 .ensures) (fills-more (a .mints .now) (a .keys .now) f x transferWidth (l .i) (l .k) r (a .out .now) (l .out) _ (l .inv .3) one),
+      counts-more (a .mints .now) (a .keys .now) f x transferWidth (l .i) (l .k) r (l .out) _ (a .moved .now) (l .moved) (l .inv .4) one,
     )
 
 -- src/transfers.rt:56:1

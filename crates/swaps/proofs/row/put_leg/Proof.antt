@@ -4,7 +4,7 @@ use mathlib.Core.Path.{refl, ap}
 use lib.Seq.{sets}
 use Rattle.wire.specs.Sets.{sets-past}
 use Rattle.wire.specs.Zeros.{zeros}
-use Rattle.swaps.specs.Row.{poolsOf}
+use Rattle.swaps.specs.Row.{poolsOf, legWidth}
 use Rattle.swaps.proofs.Rows.{row-in}
 use borrow.Author.Needs.{needs}
 use Rattle.swaps.proofs.row.put_leg.Statement.{statement}
@@ -105,7 +105,7 @@ returns-2 c =
     )
     (ap
     (sets (a .out .now) (a .at))
-    (row-in (zeros 250) (a .invocation) (a .keys .now) (a .program) (a .spent .now) (a .bought .now) (poolsOf (a .pools .now)) (a .leg) refl))
+    (row-in (zeros legWidth) (a .invocation) (a .keys .now) (a .program) (a .spent .now) (a .bought .now) (poolsOf (a .pools .now)) (a .leg) refl))
 
 pub put-leg-spec : {M : Type 1} → statement M
 put-leg-spec =

@@ -20,6 +20,7 @@ use Rattle.wire.proofs.put.Reads as put-reads
 use Rattle.wire.proofs.put_byte.Reads as put-byte-reads
 use Rattle.wire.proofs.put_u32.Reads as put-u32-reads
 use Rattle.wire.proofs.put_u64.Reads as put-u64-reads
+use Rattle.token.specs.Rows.{transferWidth}
 
 -- src/row.rt:31:19
 slice-aggregate-put-u32 : tie.Need-slice-aggregate-put-u32
@@ -115,7 +116,7 @@ returns c =
     )
     (ap
     (sets (a .out .now) (a .at))
-    (fields (zeros 150) (leBytes 4 (a .invocation)) (k (a .program)) (k (a .source)) (k (a .destination)) (mintField (mintOf (a .mint .now))) (leBytes 8 (a .amount)) (leBytes 8 (a .fee)) (a .told)
+    (fields (zeros transferWidth) (leBytes 4 (a .invocation)) (k (a .program)) (k (a .source)) (k (a .destination)) (mintField (mintOf (a .mint .now))) (leBytes 8 (a .amount)) (leBytes 8 (a .fee)) (a .told)
     refl (leBytes-length 4 (a .invocation)) (key-length (a .keys .now) (a .program)) (key-length (a .keys .now) (a .source)) (key-length (a .keys .now) (a .destination)) (mint-length (a .mint .now)) (leBytes-length 8 (a .amount)) (leBytes-length 8 (a .fee))))
 
 pub put-fields-spec : {M : Type 1} → statement M
