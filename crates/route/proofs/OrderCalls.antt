@@ -5,12 +5,15 @@ use mathlib.Core.Logic.{_↔_}
 use mathlib.Core.List.{List, List·Memᴰ}
 use Prim.Native.Nat.{ℕ}
 use Rattle.ids.specs.Keys.{Key}
-use Rattle.evidence.specs.Evidence.{Free, One}
-use Rattle.evidence.specs.Independence.{Apart, Unjoined, unjoined-apart}
+use Rattle.evidence.specs.Table.{same-sym}
+use Rattle.evidence.specs.Evidence.{Free, One, free-map}
+use Rattle.evidence.specs.Chains.{Chain}
+use Rattle.evidence.specs.Independence.{Apart, Unjoined, same-agree, same-chain, unjoined-apart}
 use Rattle.evidence.specs.MintTable.{rowAccounts}
 use Rattle.route.specs.declared.Answer.{Answer}
 use Rattle.route.specs.Route.{Lent, lent, Routed, route, Leaves}
 use Rattle.route.specs.Order.{evidenceIn, plainsIn, SameEvidence, mintsRead, InputTaken, NoRoom, FilledByChains}
+use Rattle.route.proofs.OrderMints.{same-evidence, same-plains}
 use Rattle.route.proofs.Order.{filled-in, same-accounts, same-count, same-recorded, same-bytes, same-room}
 
 -- refused for want of room in table 0
@@ -49,6 +52,18 @@ module _ {names p q t0 t1 t2 t3 t4 u0 u1 u2 u3 u4 : List ℕ} {r r′ : Answer} 
     -- one recorded mint is in both, with mark 0
     pub same-table-recorded : {c m : Key} → One (evidenceIn p) c m → List·Memᴰ (c, m, 0) (mintsRead (r .mints) o0) × List·Memᴰ (c, m, 0) (mintsRead (r′ .mints) o0′)
     same-table-recorded o = rw (x .answer, x .mints, answer-right, mints-right) (same-recorded names (lent t0 t1 t2 t3 t4) h first second o)
+
+    -- (ii) in both tables an account with no recorded mint is filled in exactly when a chain of the first pack reaches it, with the mint at the start of one
+    pub same-table-filled-in : {c : Key} → Free (evidenceIn p) c → FilledByChains p (mintsRead (r .mints) o0) c × FilledByChains p (mintsRead (r′ .mints) o0′) c
+    same-table-filled-in {c} f =
+        let k = table-filled-in y b (free-map (same-agree (same-evidence h) c) f) in
+        (table-filled-in x a f, record { exactly = (λ s. (s .0, over (k .start (s .1 .row))), λ s. k .exactly .1 (s .0, under (s .1))); start = λ i. over (k .start i) })
+      where
+        over : {c m : Key} → Chain (evidenceIn q) (plainsIn q) m c → Chain (evidenceIn p) (plainsIn p) m c
+        over t = same-chain (same-sym (same-evidence h)) (same-sym (same-plains h)) t
+
+        under : {c m : Key} → Chain (evidenceIn p) (plainsIn p) m c → Chain (evidenceIn q) (plainsIn q) m c
+        under t = same-chain (same-evidence h) (same-plains h) t
 
     -- (iii) no account reached from two different recorded mints: the two tables are equal, byte for byte
     pub same-table : Apart (evidenceIn p) (plainsIn p) → o0 ≡ o0′
