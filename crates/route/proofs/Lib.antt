@@ -18,6 +18,8 @@ pub mod Filling
 pub mod Success
 pub mod Called
 pub mod Claims
+pub mod Widths
+pub mod Laid
 pub mod Packing
 pub mod MarkedCases
 pub mod OrderCases

@@ -12,6 +12,7 @@ use Rattle.wire.specs.Sets.{sets-next}
 use Rattle.pack.specs.Items.{rows}
 use Rattle.evidence.specs.MintTable.{MintRow}
 use Rattle.mints.specs.Bytes.{mintRow}
+use Rattle.mints.proofs.Writing.{mint-row-length}
 use Rattle.route.specs.Widths.{mintWidth}
 use Rattle.route.specs.Lay.{placed, written}
 use Rattle.route.specs.Order.{mintRead, mintsRead}
@@ -32,7 +33,7 @@ module _ (w : ℕ) where
   first : {r : List ℕ} {l : List (List ℕ)} → Rowed w (r ∷ l) → length r ≡ w
   first {r} h = h .each r (List·Memᴰ·head refl)
 
-  flat-length : (l : List (List ℕ)) → Rowed w l → length (flat l) ≡ length l * w
+  pub flat-length : (l : List (List ℕ)) → Rowed w l → length (flat l) ≡ length l * w
   unfolding flat
   flat-length [] h = sym (zero-mul w)
   flat-length (r ∷ l) h = rw (length-append r (flat l), flat-length l (tail h), suc-mul) (omega (arith, first h))
@@ -89,7 +90,7 @@ mint-rowed l h = record { each = λ r i. row r i }
     row : (r : List ℕ) → List·Memᴰ r (map mintRow l) → length r ≡ mintWidth
     row r i =
         let x = Memᴰ·of-map mintRow l i in
-        rw (← x .2) (simp length-append (omega (arith, h .account (x .0) (x .1), h .mint (x .0) (x .1))))
+        rw (← x .2) (mint-row-length (x .0) (h .account (x .0) (x .1)) (h .mint (x .0) (x .1)))
 
 -- the rows of table 0 are those that were written
 module _ (l : List MintRow) (n : ℕ) (h : Sized l) (f : length l ≤ n / mintWidth) where

@@ -35,7 +35,8 @@ unfolding flagged
 flagged-length none = ap suc (leBytes-length 4 0)
 flagged-length (some x) = ap suc (leBytes-length 4 x)
 
-row-length : (p : Position) (end bits leg : ℕ) → length (invocationRow p end bits leg) ≡ invocationWidth
+-- a row has the width of the table
+pub row-length : (p : Position) (end bits leg : ℕ) → length (invocationRow p end bits leg) ≡ invocationWidth
 unfolding invocationRow
 row-length p end bits leg = simp (length-append, leBytes-length, flagged-length)
 

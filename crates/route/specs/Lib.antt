@@ -11,5 +11,6 @@ pub mod Route
 pub mod Fit
 pub mod Arrays
 pub mod Filled
+pub mod Laid
 pub mod Order
 pub mod MarkedCases

@@ -9,7 +9,7 @@ use lib.Dec.{ltb, eqb}
 use lib.ListN.{length}
 use Rattle.wire.specs.Zeros.{zeros}
 use Rattle.pack.specs.Sections.{sectionOf}
-use Rattle.pack.specs.View.{View, viewOf}
+use Rattle.pack.specs.View.{viewOf}
 use Rattle.pack.specs.Flatten.{flatten}
 use Rattle.pack.specs.Verdict.{verdict, numberOf, placeOf}
 use Rattle.pack.specs.declared.Verdict.{Verdict}
