@@ -22,4 +22,5 @@ pub mod Widths
 pub mod Laid
 pub mod Packing
 pub mod MarkedCases
+pub mod WorkedCases
 pub mod OrderCases

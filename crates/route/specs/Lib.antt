@@ -14,3 +14,6 @@ pub mod Filled
 pub mod Laid
 pub mod Order
 pub mod MarkedCases
+pub mod WorkedForm
+pub mod WorkedLegs
+pub mod WorkedCases
