@@ -23,4 +23,5 @@ pub mod Laid
 pub mod Packing
 pub mod MarkedCases
 pub mod WorkedCases
+pub mod WorkedLimits
 pub mod OrderCases
