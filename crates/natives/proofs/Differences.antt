@@ -1,79 +1,88 @@
--- Where the Rust and the published layouts agree on native actions, and where not: it wants the exact length of each, and the accounts that are
--- published. So it is stricter exactly on longer data, and never looser (`stricter` and `never-looser` of token's Differences).
+-- Where the Rust takes a native action and where the published layout fits. It wants the exact length of each, and the accounts that are published: so it
+-- misses exactly what is longer, and adds nothing.
 -- Assumes nothing.
-use mathlib.Core.Path.{_≡_, refl}
-use mathlib.Core.Bool.{Bool, true, false, cond, _&&_, and-true, and-false, and-assoc}
+use mathlib.Core.Path.{_≡_, refl, sym}
+use mathlib.Core.Logic.{_≢_}
+use mathlib.Core.Bool.{true, false, _&&_, and-true, and-false, or-false}
 use mathlib.Core.List.{List, [], _∷_}
 use mathlib.Core.Option.{Option, none, some}
-use Prim.Native.Nat.{ℕ, suc}
+use Prim.Native.Nat.{ℕ}
 use native.Mathlib.Omega.{arith}
-use lib.Dec.{ltb, leb, eqb}
+use lib.Dec.{ltb, eqb}
 use lib.ListN.{length}
 use borrow.Author.Tests.{ne-eqb}
-use Rattle.wire.specs.Le.{le}
 use Rattle.wire.specs.Same.{same, same-true}
 use Rattle.wire.specs.Zeros.{zeros}
 use Rattle.ids.specs.declared.Id.{Id}
 use Rattle.ids.specs.declared.Id.the-variants.{SplToken, System, Unresolved}
+use Rattle.ids.specs.Which.{numberOf}
 use Rattle.ids.specs.Ids.{idAt}
-use Rattle.ids.specs.Keys.{Key, account}
+use Rattle.ids.specs.Keys.{Key}
 use Rattle.token.specs.Programs.{isToken}
-use Rattle.token.specs.Published.{Layout, held, source, destination, authority, lamports, before, place, total, size, number, role, starts, fits, exact, systemTransfer, syncNative, closeAccount}
-use Rattle.natives.specs.Natives.{NativeAction, isSystem, funds, syncs, closes, asked, wrapped, counted, nativeAction}
+use Rattle.token.specs.Published.{total, size, starts, oneOf, fits, systemTransfer, syncNative, closeAccount}
+use Rattle.token.specs.ByLayout.{exact}
+use Rattle.token.proofs.Differences.{token-programs, Listed, exact-missed}
+use Rattle.natives.specs.Natives.{isSystem, funds, syncs, closes, asked, wrapped, counted, nativeAction}
 
--- System Transfer
-pub fund-accepts : (id : Id) (n : ℕ) (d : List ℕ) → funds id n d ≡ (isSystem id && exact systemTransfer 2 n d)
-unfolding funds exact systemTransfer size total
-fund-accepts id n d = simp and-assoc
+-- the Rust's test of the program is the published one
+pub system-program : (id : Id) → isSystem id ≡ oneOf (System ∷ []) id
+unfolding isSystem oneOf
+system-program id = sym (or-false (eqb (numberOf id) 14))
+
+-- System Transfer: what is taken
+pub fund-accepts : (id : Id) (n : ℕ) (d : List ℕ) → funds id n d ≡ exact systemTransfer 2 id n d
+unfolding funds exact systemTransfer size total starts
+fund-accepts id n d = rw (system-program id)
 
 -- two bytes are not one
 not-lone : (x y : ℕ) (r : List ℕ) → eqb (length (x ∷ y ∷ r)) 1 ≡ false
 not-lone x y r = ne-eqb (length (x ∷ y ∷ r)) 1 (λ (e : length (x ∷ y ∷ r) ≡ 1). omega arith)
 
 -- SyncNative
-pub sync-accepts : (id : Id) (n : ℕ) (d : List ℕ) → syncs id n d ≡ (isToken id && exact syncNative 1 n d)
+pub sync-accepts : (id : Id) (n : ℕ) (d : List ℕ) → syncs id n d ≡ exact syncNative 1 id n d
 unfolding syncs exact syncNative size total starts same
 sync-accepts id n [] = simp and-false
-sync-accepts id n (x ∷ []) = simp (and-assoc, and-true)
+sync-accepts id n (x ∷ []) = simp (token-programs, and-true)
 sync-accepts id n (x ∷ y ∷ r) = simp (not-lone x y r, and-false)
 
 -- CloseAccount
-pub close-accepts : (id : Id) (n : ℕ) (d : List ℕ) → closes id n d ≡ (isToken id && exact closeAccount 3 n d)
+pub close-accepts : (id : Id) (n : ℕ) (d : List ℕ) → closes id n d ≡ exact closeAccount 3 id n d
 unfolding closes exact closeAccount size total starts same
 close-accepts id n [] = simp and-false
-close-accepts id n (x ∷ []) = simp (and-assoc, and-true)
+close-accepts id n (x ∷ []) = simp (token-programs, and-true)
 close-accepts id n (x ∷ y ∷ r) = simp (not-lone x y r, and-false)
 
--- the number and the accounts that are read stand where they are published
-pub fund-fields : (κ : ℕ → Key) (a d : List ℕ) → (number systemTransfer lamports d ≡ le 8 d 4) × (role systemTransfer source κ a ≡ account κ a 0) × (role systemTransfer destination κ a ≡ account κ a 1)
-unfolding number role systemTransfer before place
-fund-fields κ a d = (refl, refl, refl)
+-- THE LIST, of the native actions
+module _ (id : Id) (n : ℕ) (d : List ℕ) where
+  pub fund-listed : Listed (fits systemTransfer id n d) (funds id n d) (fits systemTransfer id n d && ltb 12 (length d)) false
+  unfolding systemTransfer size total
+  fund-listed = rw (fund-accepts id n d) (exact-missed systemTransfer id n d)
 
-pub sync-fields : (κ : ℕ → Key) (a : List ℕ) → role syncNative held κ a ≡ account κ a 0
-unfolding role syncNative place
-sync-fields κ a = refl
+  pub sync-listed : Listed (fits syncNative id n d) (syncs id n d) (fits syncNative id n d && ltb 1 (length d)) false
+  unfolding syncNative size total
+  sync-listed = rw (sync-accepts id n d) (exact-missed syncNative id n d)
 
-pub close-fields : (κ : ℕ → Key) (a : List ℕ) → (role closeAccount held κ a ≡ account κ a 0) × (role closeAccount destination κ a ≡ account κ a 1) × (role closeAccount authority κ a ≡ account κ a 2)
-unfolding role closeAccount place
-close-fields κ a = (refl, refl, refl)
+  pub close-listed : Listed (fits closeAccount id n d) (closes id n d) (fits closeAccount id n d && ltb 1 (length d)) false
+  unfolding closeAccount size total
+  close-listed = rw (close-accepts id n d) (exact-missed closeAccount id n d)
 
--- the smallest example of each: a byte too many
-pub longer-fund : (fits systemTransfer 2 (2 ∷ zeros 12) ≡ true) × (funds System 2 (2 ∷ zeros 12) ≡ false)
-unfolding fits systemTransfer size total starts same funds isSystem
+-- the smallest example of each difference: a byte too many
+pub longer-fund : (fits systemTransfer System 2 (2 ∷ zeros 12) ≡ true) × (funds System 2 (2 ∷ zeros 12) ≡ false)
+unfolding fits oneOf systemTransfer size total starts same funds isSystem
 longer-fund = (refl, refl)
 
-pub longer-sync : (fits syncNative 1 (17 ∷ 0 ∷ []) ≡ true) × (syncs SplToken 1 (17 ∷ 0 ∷ []) ≡ false)
-unfolding fits syncNative size total starts same syncs isToken
+pub longer-sync : (fits syncNative SplToken 1 (17 ∷ 0 ∷ []) ≡ true) × (syncs SplToken 1 (17 ∷ 0 ∷ []) ≡ false)
+unfolding fits oneOf syncNative size total starts same syncs isToken
 longer-sync = (refl, refl)
 
-pub longer-close : (fits closeAccount 3 (9 ∷ 0 ∷ []) ≡ true) × (closes SplToken 3 (9 ∷ 0 ∷ []) ≡ false)
-unfolding fits closeAccount size total starts same closes isToken
+pub longer-close : (fits closeAccount SplToken 3 (9 ∷ 0 ∷ []) ≡ true) × (closes SplToken 3 (9 ∷ 0 ∷ []) ≡ false)
+unfolding fits oneOf closeAccount size total starts same closes isToken
 longer-close = (refl, refl)
 
--- other ways of moving lamports fund nothing: CreateAccount (tag 0) and TransferWithSeed (tag 11), here with as many bytes as a transfer has
-pub no-other-fund : (funds System 2 (zeros 12) ≡ false) × (funds System 2 (11 ∷ zeros 11) ≡ false)
-unfolding funds isSystem starts same
-no-other-fund = (refl, refl)
+-- other ways of moving lamports fund nothing: CreateAccount (0), CreateAccountWithSeed (3), WithdrawNonceAccount (5), TransferWithSeed (11)
+pub no-other-fund : (id : Id) (n x : ℕ) (r : List ℕ) → x ≢ 2 → funds id n (x ∷ r) ≡ false
+unfolding funds same
+no-other-fund id n x r h = simp (ne-eqb x 2 h, and-false)
 
 -- one mint alone is wrapped SOL: Token-2022's own native mint is not
 pub wrapped-only : (m : Key) → wrapped (some m) ≡ true → idAt 2 ≡ m

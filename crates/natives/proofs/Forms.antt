@@ -14,14 +14,13 @@ use Rattle.wire.proofs.Laws.{le-back}
 use Rattle.ids.specs.declared.Id.{Id}
 use Rattle.ids.specs.Which.{numberOf}
 use Rattle.token.specs.Programs.{isToken}
-use Rattle.token.specs.Published.{starts}
 use Rattle.natives.specs.Natives.{isSystem, funds, syncs, closes}
 use Rattle.natives.specs.Numbers.{formOf, sizedOf}
 use Rattle.natives.specs.declared.Native.the-variants.{Nothing}
 
 -- four bytes that are the number 2 are 2, 0, 0, 0
-pub is-two : (d : List ℕ) → ((k : ℕ) → getD d k 0 < 256) → length d ≡ 12 → le 4 d 0 ≡ 2 → starts (2 ∷ 0 ∷ 0 ∷ 0 ∷ []) d ≡ true
-unfolding starts leBytes
+pub is-two : (d : List ℕ) → ((k : ℕ) → getD d k 0 < 256) → length d ≡ 12 → le 4 d 0 ≡ 2 → same (take 4 d) (2 ∷ 0 ∷ 0 ∷ 0 ∷ []) ≡ true
+unfolding leBytes
 is-two d h l e = same-eq (sym (le-back 4 d 0 (λ k g. h (0 + k)) (omega arith)) ∙ ap (leBytes 4) e)
 
 -- and the other way
@@ -29,8 +28,7 @@ two : (d : List ℕ) → take 4 d ≡ 2 ∷ 0 ∷ 0 ∷ 0 ∷ [] → le 4 d 0 �
 unfolding le
 two d e = ap (λ (s : List ℕ). le 4 s 0) (sym (take-append-drop 4 d) ∙ ap (λ (p : List ℕ). p ++ drop 4 d) e)
 
-pub not-two : (d : List ℕ) → (le 4 d 0 ≡ 2 → ⊥) → starts (2 ∷ 0 ∷ 0 ∷ 0 ∷ []) d ≡ false
-unfolding starts
+pub not-two : (d : List ℕ) → (le 4 d 0 ≡ 2 → ⊥) → same (take 4 d) (2 ∷ 0 ∷ 0 ∷ 0 ∷ []) ≡ false
 not-two d h = same-ne (λ e. h (two d e))
 
 -- a byte alone
@@ -62,4 +60,4 @@ unsized id accounts d e = go (isToken id) refl e
     go true p f =
         rw (p, apart id p, same-not-long d (17 ∷ []) (eqb-false (length d) 1 f), same-not-long d (9 ∷ []) (eqb-false (length d) 1 f))
     go false p f =
-        rw (p, no-fund (isSystem id) (starts (2 ∷ 0 ∷ 0 ∷ 0 ∷ []) d) (eqb (length d) 12) (leb 2 (length accounts)) f)
+        rw (p, no-fund (isSystem id) (same (take 4 d) (2 ∷ 0 ∷ 0 ∷ 0 ∷ [])) (eqb (length d) 12) (leb 2 (length accounts)) f)

@@ -8,7 +8,7 @@ use Prim.Native.Nat.{ℕ, _+_, _≤_, _<_}
 use native.Mathlib.Numerals.{add-one}
 use native.Mathlib.Omega.{arith}
 use lib.Dec.{leb, eqb}
-use lib.ListN.{length, getD, drop}
+use lib.ListN.{length, getD, take, drop}
 use lib.Seq.{drop-cons, drop-length}
 use borrow.Author.Tests.{lt-ltb, le-ltb, leb-true}
 use Rattle.wire.specs.Same.{same, same-true}
@@ -17,7 +17,6 @@ use Rattle.ids.specs.declared.Id.{Id}
 use Rattle.ids.specs.Ids.{ids, idAt}
 use Rattle.ids.specs.Keys.{Key, zeroKey}
 use Rattle.token.specs.Programs.{isToken}
-use Rattle.token.specs.Published.{starts}
 use Rattle.ids.specs.Mints.{isMint, mintOf}
 use Rattle.token.proofs.Laws.{there}
 use Rattle.natives.specs.Natives.{isSystem, funds, syncs, closes, asked, allBelow, wrapped, counted, nativeAction}
@@ -28,7 +27,7 @@ use Rattle.natives.specs.declared.Native.the-variants.{Nothing, Fund, Sy
 module _ (κ : ℕ → Key) (id : Id) (accounts d : List ℕ) where
   fund-floor : funds id (length accounts) d ≡ true → 2 ≤ length accounts
   unfolding funds
-  fund-floor e = leb-true 2 (length accounts) (and-right (isSystem id && starts (2 ∷ 0 ∷ 0 ∷ 0 ∷ []) d && eqb (length d) 12) (leb 2 (length accounts)) e)
+  fund-floor e = leb-true 2 (length accounts) (and-right (isSystem id && same (take 4 d) (2 ∷ 0 ∷ 0 ∷ 0 ∷ []) && eqb (length d) 12) (leb 2 (length accounts)) e)
 
   sync-floor : syncs id (length accounts) d ≡ true → 1 ≤ length accounts
   unfolding syncs

@@ -1,3 +1,4 @@
 pub mod Natives
+pub mod ByLayout
 pub mod Numbers
 pub mod Rows

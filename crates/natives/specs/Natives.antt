@@ -5,7 +5,7 @@ use mathlib.Core.Bool.{Bool, true, false, cond, _&&_}
 use mathlib.Core.List.{List, [], _∷_}
 use mathlib.Core.Option.{Option, none, some}
 use lib.Dec.{ltb, leb, eqb}
-use lib.ListN.{length}
+use lib.ListN.{length, take}
 use Rattle.wire.specs.Le.{le}
 use Rattle.wire.specs.Same.{same}
 use Rattle.ids.specs.declared.Id.{Id}
@@ -13,7 +13,6 @@ use Rattle.ids.specs.Which.{numberOf}
 use Rattle.ids.specs.Keys.{Key, account}
 use Rattle.ids.specs.Ids.{idAt}
 use Rattle.token.specs.Programs.{isToken}
-use Rattle.token.specs.Published.{starts}
 
 pub data Action : Type 0 where
   fund : (source : Key) (lamports : ℕ) → Action
@@ -31,7 +30,7 @@ isSystem id = eqb (numberOf id) 14
 
 -- fund: System, 12 bytes that begin 2, 0, 0, 0, two accounts
 unfoldable pub funds : Id → ℕ → List ℕ → Bool
-funds id n d = isSystem id && starts (2 ∷ 0 ∷ 0 ∷ 0 ∷ []) d && eqb (length d) 12 && leb 2 n
+funds id n d = isSystem id && same (take 4 d) (2 ∷ 0 ∷ 0 ∷ 0 ∷ []) && eqb (length d) 12 && leb 2 n
 
 -- sync: exactly [17], one account
 unfoldable pub syncs : Id → ℕ → List ℕ → Bool

@@ -1,100 +1,126 @@
--- Where the Rust and the published layouts agree, and exactly where they do not. The three transfers agree throughout. Of the others the Rust wants
--- the exact length, so it is stricter on longer data; and it is looser where fewer accounts are enough for it than are published.
+-- Where the Rust takes an instruction and where the published layout fits, and exactly where these differ. The three transfers agree throughout. Of the
+-- others the Rust wants the exact length, so it misses longer data; and for two initialise instructions fewer accounts than published are enough for it.
 -- Assumes nothing.
 use mathlib.Core.Path.{_≡_, refl, sym, _∙_}
-use mathlib.Core.Logic.{_≢_, by-cases}
-use mathlib.Core.Bool.{Bool, true, false, _&&_, _||_, not, and-true, and-false, and-assoc, or-assoc, or-false, and-or-distrib-right}
+use mathlib.Core.Logic.{by-cases}
+use mathlib.Core.Bool.{Bool, true, false, _&&_, _||_, not, and-true, and-false, or-false, false≢true}
 use mathlib.Core.List.{List, [], _∷_}
-use Prim.Native.Nat.{ℕ, suc, _≤_, _<_}
+use Prim.Native.Nat.{ℕ, _≤_, _<_}
 use native.Mathlib.Decide.{ℕ-discrete}
 use native.Mathlib.Omega.{arith}
 use lib.Dec.{ltb, leb, eqb}
-use lib.ListN.{length, getD}
-use borrow.Author.Tests.{lt-ltb, le-ltb, le-leb, lt-leb, eq-eqb, ne-eqb, leb-true, leb-false}
-use Rattle.wire.specs.Le.{le}
+use lib.ListN.{length, getD, take}
+use borrow.Author.Tests.{lt-ltb, le-ltb, le-leb, eq-eqb, ne-eqb, eqb-true, ltb-true, leb-true, leb-false}
+use Rattle.wire.specs.Below.{allBelow, below-at, and-left, and-right}
 use Rattle.wire.specs.Same.{same}
 use Rattle.wire.specs.Zeros.{zeros}
 use Rattle.ids.specs.declared.Id.{Id}
-use Rattle.ids.specs.declared.Id.the-variants.{SplToken}
-use Rattle.ids.specs.Keys.{Key, account}
+use Rattle.ids.specs.declared.Id.the-variants.{SplToken, Token2022}
+use Rattle.ids.specs.Which.{numberOf}
 use Rattle.token.specs.Programs.{isToken, isToken2022}
 use Rattle.token.specs.Tokens.{initialises, plainTransfer, checkedTransfer, feeTransfer}
-use Rattle.token.specs.Published.{Layout, rank, amount, fee, source, destination, mint, held, before, place, total, size, number, role, starts, fits, exact, transfer, transferChecked, transferCheckedWithFee, initializeAccount, initializeAccount2, initializeAccount3}
+use Rattle.token.specs.Published.{Layout, total, size, starts, oneOf, fits, layouts, transfer, transferChecked, transferCheckedWithFee, initializeAccount, initializeAccount2, initializeAccount3, systemTransfer, syncNative, closeAccount}
+use Rattle.token.specs.ByLayout.{exact, initialisesAs}
+
+-- the Rust's tests of the program are the published programs
+below-two : (k : ℕ) → ltb k 2 ≡ (eqb k 0 || (eqb k 1 || false))
+below-two k =
+    by-cases
+    (ℕ-discrete k 0)
+    (λ e. rw e)
+    (λ z.
+    by-cases
+    (ℕ-discrete k 1)
+    (λ e. rw e)
+    (λ o. rw (ne-eqb k 0 z, ne-eqb k 1 o, le-ltb k 2 (omega arith))))
+
+pub token-programs : (id : Id) → isToken id ≡ oneOf (SplToken ∷ Token2022 ∷ []) id
+unfolding isToken oneOf
+token-programs id = below-two (numberOf id)
+
+pub fee-programs : (id : Id) → isToken2022 id ≡ oneOf (Token2022 ∷ []) id
+unfolding isToken2022 oneOf
+fee-programs id = sym (or-false (eqb (numberOf id) 1))
 
 -- Transfer: the same instructions
-pub plain-agrees : (id : Id) (n : ℕ) (d : List ℕ) → plainTransfer id n d ≡ (isToken id && fits transfer n d)
+pub plain-agrees : (id : Id) (n : ℕ) (d : List ℕ) → plainTransfer id n d ≡ fits transfer id n d
 unfolding plainTransfer transfer fits size total starts same
 plain-agrees id n [] = simp and-false
-plain-agrees id n (x ∷ r) = simp (and-assoc, and-true)
+plain-agrees id n (x ∷ r) = simp (token-programs, and-true)
 
 -- TransferChecked: the same instructions
-pub checked-agrees : (id : Id) (n : ℕ) (d : List ℕ) → checkedTransfer id n d ≡ (isToken id && fits transferChecked n d)
+pub checked-agrees : (id : Id) (n : ℕ) (d : List ℕ) → checkedTransfer id n d ≡ fits transferChecked id n d
 unfolding checkedTransfer transferChecked fits size total starts same
 checked-agrees id n [] = simp and-false
-checked-agrees id n (x ∷ r) = simp (and-assoc, and-true)
+checked-agrees id n (x ∷ r) = simp (token-programs, and-true)
 
 -- TransferCheckedWithFee: the same instructions
-pub fee-agrees : (id : Id) (n : ℕ) (d : List ℕ) → feeTransfer id n d ≡ (isToken2022 id && fits transferCheckedWithFee n d)
+pub fee-agrees : (id : Id) (n : ℕ) (d : List ℕ) → feeTransfer id n d ≡ fits transferCheckedWithFee id n d
 unfolding feeTransfer transferCheckedWithFee fits size total starts same
 fee-agrees id n [] = simp and-false
 fee-agrees id n (x ∷ []) = simp and-false
-fee-agrees id n (x ∷ y ∷ r) = simp (and-assoc, and-true)
+fee-agrees id n (x ∷ y ∷ r) = simp (fee-programs, and-true)
 
--- InitializeAccount 1 to 3: what the Rust accepts
-pub initialise-accepts : (id : Id) (n : ℕ) (d : List ℕ) → initialises id n d ≡ (isToken id && (exact initializeAccount 2 n d || exact initializeAccount2 2 n d || exact initializeAccount3 2 n d))
-unfolding initialises exact initializeAccount initializeAccount2 initializeAccount3 size total starts same
-initialise-accepts id n [] = simp and-false
-initialise-accepts id n (x ∷ r) = simp (and-assoc, and-true, and-or-distrib-right, or-assoc)
+-- InitializeAccount, InitializeAccount2, InitializeAccount3: what is taken as each
+module _ (id : Id) (n : ℕ) where
+  pub initialise-1 : (d : List ℕ) → initialisesAs initializeAccount id n d ≡ exact initializeAccount 2 id n d
+  unfolding initialisesAs initialises exact initializeAccount size total starts same
+  initialise-1 [] = simp and-false
+  initialise-1 (x ∷ r) =
+      by-cases (ℕ-discrete x 1) (λ (e : x ≡ 1). simp (e, token-programs, and-true, or-false)) (λ o. simp (ne-eqb x 1 o, and-false))
 
--- the numbers and accounts that are read stand where they are published
-pub amount-plain : (d : List ℕ) → number transfer amount d ≡ le 8 d 1
-unfolding number transfer before
-amount-plain d = refl
+  pub initialise-2 : (d : List ℕ) → initialisesAs initializeAccount2 id n d ≡ exact initializeAccount2 2 id n d
+  unfolding initialisesAs initialises exact initializeAccount2 size total starts same
+  initialise-2 [] = simp and-false
+  initialise-2 (x ∷ r) =
+      by-cases (ℕ-discrete x 16) (λ (e : x ≡ 16). simp (e, token-programs, and-true)) (λ o. simp (ne-eqb x 16 o, and-false))
 
-pub amount-checked : (d : List ℕ) → number transferChecked amount d ≡ le 8 d 1
-unfolding number transferChecked before
-amount-checked d = refl
+  pub initialise-3 : (d : List ℕ) → initialisesAs initializeAccount3 id n d ≡ exact initializeAccount3 2 id n d
+  unfolding initialisesAs initialises exact initializeAccount3 size total starts same
+  initialise-3 [] = simp and-false
+  initialise-3 (x ∷ r) =
+      by-cases (ℕ-discrete x 18) (λ (e : x ≡ 18). simp (e, token-programs, and-true)) (λ o. simp (ne-eqb x 18 o, and-false))
 
-pub amount-with-fee : (d : List ℕ) → number transferCheckedWithFee amount d ≡ le 8 d 2
-unfolding number transferCheckedWithFee before
-amount-with-fee d = refl
+  -- and nothing else is taken
+  pub initialise-one : (d : List ℕ) → initialises id n d ≡ (initialisesAs initializeAccount id n d || initialisesAs initializeAccount2 id n d || initialisesAs initializeAccount3 id n d)
+  unfolding initialisesAs initialises initializeAccount initializeAccount2 initializeAccount3 starts same
+  initialise-one [] = simp and-false
+  initialise-one (x ∷ r) =
+      by-cases
+      (ℕ-discrete x 1)
+      (λ (e : x ≡ 1). simp (e, and-true, and-false, or-false))
+      (λ a.
+      by-cases
+      (ℕ-discrete x 16)
+      (λ (e : x ≡ 16). simp (e, and-true, and-false, or-false))
+      (λ b.
+      by-cases
+      (ℕ-discrete x 18)
+      (λ (e : x ≡ 18). simp (e, and-true, and-false))
+      (λ c. simp (ne-eqb x 1 a, ne-eqb x 16 b, ne-eqb x 18 c, and-false))))
 
-pub fee-with-fee : (d : List ℕ) → number transferCheckedWithFee fee d ≡ le 8 d 11
-unfolding number transferCheckedWithFee before
-fee-with-fee d = refl
+-- published and not taken; taken and not published
+abbrev pub Listed : Bool → Bool → Bool → Bool → Type 0
+Listed published taken missed added = ((published && not taken) ≡ missed) × ((taken && not published) ≡ added)
 
-pub roles-plain : (κ : ℕ → Key) (a : List ℕ) → (role transfer source κ a ≡ account κ a 0) × (role transfer destination κ a ≡ account κ a 1)
-unfolding role transfer place
-roles-plain κ a = (refl, refl)
-
-pub roles-checked : (κ : ℕ → Key) (a : List ℕ) → (role transferChecked source κ a ≡ account κ a 0) × (role transferChecked mint κ a ≡ account κ a 1) × (role transferChecked destination κ a ≡ account κ a 2)
-unfolding role transferChecked place
-roles-checked κ a = (refl, refl, refl)
-
-pub roles-with-fee : (κ : ℕ → Key) (a : List ℕ) → (role transferCheckedWithFee source κ a ≡ account κ a 0) × (role transferCheckedWithFee mint κ a ≡ account κ a 1) × (role transferCheckedWithFee destination κ a ≡ account κ a 2)
-unfolding role transferCheckedWithFee place
-roles-with-fee κ a = (refl, refl, refl)
-
-pub roles-initialise : (κ : ℕ → Key) (a : List ℕ) → (role initializeAccount held κ a ≡ account κ a 0) × (role initializeAccount mint κ a ≡ account κ a 1) × (role initializeAccount2 held κ a ≡ account κ a 0) × (role initializeAccount2 mint κ a ≡ account κ a 1) × (role initializeAccount3 held κ a ≡ account κ a 0) × (role initializeAccount3 mint κ a ≡ account κ a 1)
-unfolding role initializeAccount initializeAccount2 initializeAccount3 place
-roles-initialise κ a = (refl, refl, refl, refl, refl, refl)
-
--- longer data: k accounts published, m enough
-longer : (len z m k n : ℕ) → m ≤ k → ((leb z len && leb k n) && not (eqb len z && leb m n)) ≡ (ltb z len && leb k n)
-longer len z m k n h = go (leb z len) refl (leb k n) refl
+-- a longer instruction is missed; q says that program and tag are right, k accounts are published, m enough
+longer : (q : Bool) (len z m k n : ℕ) → m ≤ k → (q && leb z len && leb k n && not (q && eqb len z && leb m n)) ≡ (q && leb z len && leb k n && ltb z len)
+longer false len z m k n h = refl
+longer true len z m k n h = go (leb z len) refl (leb k n) refl
   where
-    go : (a : Bool) → leb z len ≡ a → (b : Bool) → leb k n ≡ b → ((a && b) && not (eqb len z && leb m n)) ≡ (ltb z len && b)
-    go false e b f = rw (le-ltb z len (omega (arith, leb-false z len e)))
-    go true e false f = sym (and-false (ltb z len))
+    go : (a : Bool) → leb z len ≡ a → (b : Bool) → leb k n ≡ b → (a && b && not (eqb len z && leb m n)) ≡ (a && b && ltb z len)
+    go false e b f = refl
+    go true e false f = refl
     go true e true f =
         by-cases
         (ℕ-discrete len z)
         (λ q. rw (eq-eqb len z q, le-leb m n (omega (arith, leb-true k n f)), le-ltb z len (omega arith)))
         (λ q. rw (ne-eqb len z q, lt-ltb z len (omega (arith, leb-true z len e))))
 
--- fewer accounts
-fewer : (len z m k n : ℕ) → ((eqb len z && leb m n) && not (leb z len && leb k n)) ≡ (eqb len z && leb m n && ltb n k)
-fewer len z m k n =
+-- one with fewer accounts is added
+fewer : (q : Bool) (len z m k n : ℕ) → (q && eqb len z && leb m n && not (q && leb z len && leb k n)) ≡ (q && eqb len z && leb m n && ltb n k)
+fewer false len z m k n = refl
+fewer true len z m k n =
     by-cases
     (ℕ-discrete len z)
     (λ q. rw (eq-eqb len z q, le-leb z len (omega arith)) (go (leb k n) refl))
@@ -104,56 +130,108 @@ fewer len z m k n =
     go true e = rw (le-ltb n k (leb-true k n e))
     go false e = rw (lt-ltb n k (leb-false k n e))
 
--- THE RUST IS STRICTER exactly on data that is longer than the layout
-pub stricter : (l : Layout) (m n : ℕ) (d : List ℕ) → m ≤ length (l .accounts) → (fits l n d && not (exact l m n d)) ≡ (starts (l .tag) d && (ltb (size l) (length d) && leb (length (l .accounts)) n))
+-- so of every layout: missed is what is longer than its fields, and added what has fewer accounts
+pub exact-listed : (l : Layout) (m : ℕ) (id : Id) (n : ℕ) (d : List ℕ) → m ≤ length (l .accounts) → Listed (fits l id n d) (exact l m id n d) (fits l id n d && ltb (size l) (length d)) (exact l m id n d && ltb n (length (l .accounts)))
 unfolding fits exact
-stricter l m n d h = go (starts (l .tag) d)
+exact-listed l m id n d h =
+    let q = oneOf (l .programs) id && starts (l .tag) d in
+    (longer q (length d) (size l) m (length (l .accounts)) n h, fewer q (length d) (size l) m (length (l .accounts)) n)
+
+-- as many accounts are wanted as are published: nothing is added
+no-fewer : (q : Bool) (k n : ℕ) → (q && leb k n && ltb n k) ≡ false
+no-fewer q k n = go (leb k n) refl
   where
-    go : (s : Bool) → (s && (leb (size l) (length d) && leb (length (l .accounts)) n) && not (s && (eqb (length d) (size l) && leb m n))) ≡ (s && (ltb (size l) (length d) && leb (length (l .accounts)) n))
-    go true = longer (length d) (size l) m (length (l .accounts)) n h
-    go false = refl
+    go : (b : Bool) → leb k n ≡ b → (q && b && ltb n k) ≡ false
+    go true e = rw (le-ltb n k (leb-true k n e)) (and-false (q && true))
+    go false e = rw (and-false q)
 
--- THE RUST IS LOOSER exactly where fewer accounts are enough for it
-pub looser : (l : Layout) (m n : ℕ) (d : List ℕ) → (exact l m n d && not (fits l n d)) ≡ (starts (l .tag) d && (eqb (length d) (size l) && leb m n && ltb n (length (l .accounts))))
-unfolding fits exact
-looser l m n d = go (starts (l .tag) d)
-  where
-    go : (s : Bool) → (s && (eqb (length d) (size l) && leb m n) && not (s && (leb (size l) (length d) && leb (length (l .accounts)) n))) ≡ (s && (eqb (length d) (size l) && leb m n && ltb n (length (l .accounts))))
-    go true = fewer (length d) (size l) m (length (l .accounts)) n
-    go false = refl
+pub exact-missed : (l : Layout) (id : Id) (n : ℕ) (d : List ℕ) → Listed (fits l id n d) (exact l (length (l .accounts)) id n d) (fits l id n d && ltb (size l) (length d)) false
+unfolding exact
+exact-missed l id n d =
+    let x = exact-listed l (length (l .accounts)) id n d (omega arith) in
+    (x .0, x .1 ∙ no-fewer (oneOf (l .programs) id && starts (l .tag) d && eqb (length d) (size l)) (length (l .accounts)) n)
 
--- so never where it wants as many as are published
-pub never-looser : (l : Layout) (n : ℕ) (d : List ℕ) → (exact l (length (l .accounts)) n d && not (fits l n d)) ≡ false
-never-looser l n d = looser l (length (l .accounts)) n d ∙ go (leb (length (l .accounts)) n) refl
-  where
-    go : (b : Bool) → leb (length (l .accounts)) n ≡ b → (starts (l .tag) d && (eqb (length d) (size l) && leb (length (l .accounts)) n && ltb n (length (l .accounts)))) ≡ false
-    go true e = rw (le-ltb n (length (l .accounts)) (leb-true (length (l .accounts)) n e), and-false, and-false)
-    go false e = rw (e, and-false, and-false)
+-- equal tests miss and add nothing
+pub agree-listed : (published : Bool) → Listed published published false false
+agree-listed true = (refl, refl)
+agree-listed false = (refl, refl)
 
--- and where it is neither, the two agree
-pub agree : (published rust : Bool) → (published && not rust) ≡ false → (rust && not published) ≡ false → rust ≡ published
-agree true true e f = refl
-agree true false e f = sym e
-agree false true e f = f
-agree false false e f = refl
+-- THE LIST, of the token instructions
+module _ (id : Id) (n : ℕ) (d : List ℕ) where
+  pub transfer-listed : Listed (fits transfer id n d) (plainTransfer id n d) false false
+  transfer-listed = rw (plain-agrees id n d) (agree-listed (fits transfer id n d))
 
--- the smallest example of each: a byte too many, or accounts too few
-pub longer-1 : (fits initializeAccount 4 (1 ∷ 0 ∷ []) ≡ true) × (initialises SplToken 4 (1 ∷ 0 ∷ []) ≡ false)
-unfolding fits initializeAccount size total starts same initialises isToken
+  pub transfer-checked-listed : Listed (fits transferChecked id n d) (checkedTransfer id n d) false false
+  transfer-checked-listed = rw (checked-agrees id n d) (agree-listed (fits transferChecked id n d))
+
+  pub transfer-with-fee-listed : Listed (fits transferCheckedWithFee id n d) (feeTransfer id n d) false false
+  transfer-with-fee-listed = rw (fee-agrees id n d) (agree-listed (fits transferCheckedWithFee id n d))
+
+  pub initialize-listed : Listed (fits initializeAccount id n d) (initialisesAs initializeAccount id n d) (fits initializeAccount id n d && ltb 1 (length d)) (initialisesAs initializeAccount id n d && ltb n 4)
+  unfolding initializeAccount size total
+  initialize-listed = rw (initialise-1 id n d) (exact-listed initializeAccount 2 id n d (omega arith))
+
+  pub initialize-2-listed : Listed (fits initializeAccount2 id n d) (initialisesAs initializeAccount2 id n d) (fits initializeAccount2 id n d && ltb 33 (length d)) (initialisesAs initializeAccount2 id n d && ltb n 3)
+  unfolding initializeAccount2 size total
+  initialize-2-listed = rw (initialise-2 id n d) (exact-listed initializeAccount2 2 id n d (omega arith))
+
+  pub initialize-3-listed : Listed (fits initializeAccount3 id n d) (initialisesAs initializeAccount3 id n d) (fits initializeAccount3 id n d && ltb 33 (length d)) false
+  unfolding initializeAccount3 size total
+  initialize-3-listed = rw (initialise-3 id n d) (exact-missed initializeAccount3 id n d)
+
+-- NO TWO LAYOUTS SHARE A BEGINNING, so data is taken as one of them at most
+abbrev pub tagAt : ℕ → List ℕ
+tagAt k = getD layouts k systemTransfer .tag
+
+-- computed: every tag has a first byte, and no two the same
+abbrev apart : ℕ → ℕ → Bool
+apart j k = eqb j k || not (eqb (getD (tagAt j) 0 0) (getD (tagAt k) 0 0))
+
+abbrev alone : ℕ → Bool
+alone j = ltb 0 (length (tagAt j)) && allBelow (apart j) (length layouts)
+
+all-alone : allBelow alone (length layouts) ≡ true
+unfolding layouts systemTransfer initializeAccount initializeAccount2 initializeAccount3 transfer transferChecked transferCheckedWithFee syncNative closeAccount
+all-alone = refl
+
+begins : (p d : List ℕ) → 0 < length p → starts p d ≡ true → getD d 0 0 ≡ getD p 0 0
+unfolding starts same
+begins [] d h e = absurd (omega arith)
+begins (x ∷ p) [] h e = absurd (false≢true e)
+begins (x ∷ p) (y ∷ d) h e = eqb-true y x (and-left (eqb y x) (same (take (length p) d) p) e)
+
+only-left : (a b : Bool) → b ≡ true → (a || not b) ≡ true → a ≡ true
+only-left true b e f = refl
+only-left false true e f = f
+only-left false false e f = e
+
+pub tags-apart : (j k : ℕ) → j < length layouts → k < length layouts → (d : List ℕ) → starts (tagAt j) d ≡ true → starts (tagAt k) d ≡ true → j ≡ k
+tags-apart j k hj hk d ej ek =
+    let x = below-at alone (length layouts) all-alone j hj in
+    let y = below-at alone (length layouts) all-alone k hk in
+    let there-j = ltb-true 0 (length (tagAt j)) (and-left (ltb 0 (length (tagAt j))) (allBelow (apart j) (length layouts)) x) in
+    let there-k = ltb-true 0 (length (tagAt k)) (and-left (ltb 0 (length (tagAt k))) (allBelow (apart k) (length layouts)) y) in
+    let first : getD (tagAt j) 0 0 ≡ getD (tagAt k) 0 0 = sym (begins (tagAt j) d there-j ej) ∙ begins (tagAt k) d there-k ek in
+    let other = below-at (apart j) (length layouts) (and-right (ltb 0 (length (tagAt j))) (allBelow (apart j) (length layouts)) x) k hk in
+    eqb-true j k (only-left (eqb j k) (eqb (getD (tagAt j) 0 0) (getD (tagAt k) 0 0)) (eq-eqb (getD (tagAt j) 0 0) (getD (tagAt k) 0 0) first) other)
+
+-- the smallest example of each difference: a byte too many, or accounts too few
+pub longer-1 : (fits initializeAccount SplToken 4 (1 ∷ 0 ∷ []) ≡ true) × (initialises SplToken 4 (1 ∷ 0 ∷ []) ≡ false)
+unfolding fits oneOf initializeAccount size total starts same initialises isToken
 longer-1 = (refl, refl)
 
-pub longer-2 : (fits initializeAccount2 3 (16 ∷ zeros 33) ≡ true) × (initialises SplToken 3 (16 ∷ zeros 33) ≡ false)
-unfolding fits initializeAccount2 size total starts same initialises isToken
+pub longer-2 : (fits initializeAccount2 SplToken 3 (16 ∷ zeros 33) ≡ true) × (initialises SplToken 3 (16 ∷ zeros 33) ≡ false)
+unfolding fits oneOf initializeAccount2 size total starts same initialises isToken
 longer-2 = (refl, refl)
 
-pub longer-3 : (fits initializeAccount3 2 (18 ∷ zeros 33) ≡ true) × (initialises SplToken 2 (18 ∷ zeros 33) ≡ false)
-unfolding fits initializeAccount3 size total starts same initialises isToken
+pub longer-3 : (fits initializeAccount3 SplToken 2 (18 ∷ zeros 33) ≡ true) × (initialises SplToken 2 (18 ∷ zeros 33) ≡ false)
+unfolding fits oneOf initializeAccount3 size total starts same initialises isToken
 longer-3 = (refl, refl)
 
-pub fewer-1 : (fits initializeAccount 2 (1 ∷ []) ≡ false) × (initialises SplToken 2 (1 ∷ []) ≡ true)
-unfolding fits initializeAccount size total starts same initialises isToken
+pub fewer-1 : (fits initializeAccount SplToken 2 (1 ∷ []) ≡ false) × (initialises SplToken 2 (1 ∷ []) ≡ true)
+unfolding fits oneOf initializeAccount size total starts same initialises isToken
 fewer-1 = (refl, refl)
 
-pub fewer-2 : (fits initializeAccount2 2 (16 ∷ zeros 32) ≡ false) × (initialises SplToken 2 (16 ∷ zeros 32) ≡ true)
-unfolding fits initializeAccount2 size total starts same initialises isToken
+pub fewer-2 : (fits initializeAccount2 SplToken 2 (16 ∷ zeros 32) ≡ false) × (initialises SplToken 2 (16 ∷ zeros 32) ≡ true)
+unfolding fits oneOf initializeAccount2 size total starts same initialises isToken
 fewer-2 = (refl, refl)

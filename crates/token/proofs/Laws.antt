@@ -8,11 +8,10 @@ use Prim.Native.Nat.{ℕ, _<_}
 use native.Mathlib.Omega.{arith}
 use lib.ListN.{length, getD}
 use borrow.Author.Tests.{lt-ltb}
-use Rattle.wire.specs.Le.{le}
 use Rattle.ids.specs.declared.Id.{Id}
 use Rattle.ids.specs.Keys.{Key, isZero, account}
 use Rattle.token.specs.Programs.{isSpl}
-use Rattle.token.specs.Tokens.{tokenOf}
+use Rattle.token.specs.Tokens.{plainAmount, checkedAmount, feeTransferAmount, feeTransferFee, tokenOf}
 use Rattle.token.specs.Records.{bothEnds, records, recordsBy, plain, plainBy}
 use Rattle.token.specs.Transfers.{feeOf, plainly, checked, transfer}
 use Rattle.token.specs.Moved.{valueOf, feeless, movedBy}
@@ -71,13 +70,13 @@ module _ (κ : ℕ → Key) (id : Id) (accounts d : List ℕ) where
       go (initialised t h) = rw (t .plain, t .checked, t .fee)
       go (saysPlain t h) =
           rw (t .plain, there κ accounts 0 (omega arith), there κ accounts 1 (omega arith))
-          (value-feeless κ (isZero (κ (getD accounts 0 0)) || isZero (κ (getD accounts 1 0))) id (getD accounts 0 0) (getD accounts 1 0) (le 8 d 1))
+          (value-feeless κ (isZero (κ (getD accounts 0 0)) || isZero (κ (getD accounts 1 0))) id (getD accounts 0 0) (getD accounts 1 0) (plainAmount d))
       go (checkedly t h) =
           rw (t .plain, t .checked, there κ accounts 0 (omega arith), there κ accounts 1 (omega arith), there κ accounts 2 (omega arith))
-          (value-feeless κ (isZero (κ (getD accounts 0 0)) || isZero (κ (getD accounts 2 0)) || isZero (κ (getD accounts 1 0))) id (getD accounts 0 0) (getD accounts 2 0) (le 8 d 1))
+          (value-feeless κ (isZero (κ (getD accounts 0 0)) || isZero (κ (getD accounts 2 0)) || isZero (κ (getD accounts 1 0))) id (getD accounts 0 0) (getD accounts 2 0) (checkedAmount d))
       go (feely t h) =
           rw (t .plain, t .checked, t .fee, there κ accounts 0 (omega arith), there κ accounts 1 (omega arith), there κ accounts 2 (omega arith))
-          (value-fee κ (isZero (κ (getD accounts 0 0)) || isZero (κ (getD accounts 2 0)) || isZero (κ (getD accounts 1 0))) (getD accounts 0 0) (getD accounts 2 0) (le 8 d 2) (le 8 d 11))
+          (value-fee κ (isZero (κ (getD accounts 0 0)) || isZero (κ (getD accounts 2 0)) || isZero (κ (getD accounts 1 0))) (getD accounts 0 0) (getD accounts 2 0) (feeTransferAmount d) (feeTransferFee d))
       go (otherwise t) = rw (t .plain, t .checked, t .fee)
 
   -- a result that is the definition's has the value that the Rust gives

@@ -4,4 +4,5 @@ pub mod Said
 pub mod Laws
 pub mod Fields
 pub mod Differences
+pub mod Published
 pub mod Cases

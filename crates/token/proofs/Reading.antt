@@ -1,20 +1,18 @@
 -- What `tokenOf` answers, tag by tag: each tag leaves one test. The reader and the laws of the definitions that share these tests go by them.
 -- Assumes nothing.
-use mathlib.Core.Path.{_≡_, refl}
+use mathlib.Core.Path.{_≡_}
 use mathlib.Core.Logic.{_≢_}
-use mathlib.Core.Bool.{Bool, true, false, cond, _&&_, _||_, and-false, or-false}
+use mathlib.Core.Bool.{true, false, cond, _&&_, and-false, or-false}
 use mathlib.Core.List.{List}
 use Prim.Native.Nat.{ℕ}
 use lib.Dec.{leb, eqb}
 use lib.ListN.{length, getD}
 use native.Mathlib.Omega.{arith}
 use borrow.Author.Tests.{ne-eqb, ltb-false}
-use Rattle.wire.specs.Le.{le}
 use Rattle.ids.specs.declared.Id.{Id}
 use Rattle.ids.specs.Which.{numberOf}
 use Rattle.token.specs.Programs.{isToken, isToken2022}
-use Rattle.token.specs.Tokens.{initialises, plainTransfer, checkedTransfer, feeTransfer, tokenOf}
-use Rattle.token.specs.declared.Token.{Token}
+use Rattle.token.specs.Tokens.{initialises, plainTransfer, checkedTransfer, feeTransfer, plainAmount, checkedAmount, feeTransferAmount, feeTransferFee, tokenOf}
 use Rattle.token.specs.declared.Token.the-variants.{Other, Initialise, Plain, Checked, WithFee}
 
 not-2022 : (id : Id) → isToken id ≡ false → isToken2022 id ≡ false
@@ -31,11 +29,11 @@ module _ (id : Id) (n : ℕ) (d : List ℕ) where
   unfolding tokenOf initialises plainTransfer checkedTransfer feeTransfer
   read-1 t e = simp (t, e, and-false, or-false)
 
-  pub read-3 : isToken id ≡ true → getD d 0 0 ≡ 3 → tokenOf id n d ≡ cond (leb 9 (length d) && leb 3 n) (Plain (le 8 d 1)) Other
+  pub read-3 : isToken id ≡ true → getD d 0 0 ≡ 3 → tokenOf id n d ≡ cond (leb 9 (length d) && leb 3 n) (Plain (plainAmount d)) Other
   unfolding tokenOf initialises plainTransfer checkedTransfer feeTransfer
   read-3 t e = simp (t, e, and-false)
 
-  pub read-12 : isToken id ≡ true → getD d 0 0 ≡ 12 → tokenOf id n d ≡ cond (leb 10 (length d) && leb 4 n) (Checked (le 8 d 1)) Other
+  pub read-12 : isToken id ≡ true → getD d 0 0 ≡ 12 → tokenOf id n d ≡ cond (leb 10 (length d) && leb 4 n) (Checked (checkedAmount d)) Other
   unfolding tokenOf initialises plainTransfer checkedTransfer feeTransfer
   read-12 t e = simp (t, e, and-false)
 
@@ -47,7 +45,7 @@ module _ (id : Id) (n : ℕ) (d : List ℕ) where
   unfolding tokenOf initialises plainTransfer checkedTransfer feeTransfer
   read-18 t e = simp (t, e, and-false)
 
-  pub read-26 : isToken id ≡ true → getD d 0 0 ≡ 26 → tokenOf id n d ≡ cond (isToken2022 id && eqb (getD d 1 0) 1 && leb 19 (length d) && leb 4 n) (WithFee (le 8 d 2) (le 8 d 11)) Other
+  pub read-26 : isToken id ≡ true → getD d 0 0 ≡ 26 → tokenOf id n d ≡ cond (isToken2022 id && eqb (getD d 1 0) 1 && leb 19 (length d) && leb 4 n) (WithFee (feeTransferAmount d) (feeTransferFee d)) Other
   unfolding tokenOf initialises plainTransfer checkedTransfer feeTransfer
   read-26 t e = simp (t, e)
 

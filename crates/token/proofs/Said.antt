@@ -2,18 +2,17 @@
 -- Assumes nothing.
 use mathlib.Core.Path.{_≡_, refl}
 use mathlib.Core.Logic.{by-cases}
-use mathlib.Core.Bool.{Bool, true, false, cond, _&&_, _||_, and-false}
+use mathlib.Core.Bool.{Bool, true, false, _&&_, _||_, and-false}
 use mathlib.Core.List.{List}
 use Prim.Native.Nat.{ℕ, _≤_}
 use native.Mathlib.Decide.{ℕ-discrete}
 use lib.Dec.{leb, eqb}
 use lib.ListN.{length, getD}
 use borrow.Author.Tests.{ne-eqb, leb-true}
-use Rattle.wire.specs.Le.{le}
 use Rattle.wire.specs.Below.{and-right}
 use Rattle.ids.specs.declared.Id.{Id}
 use Rattle.token.specs.Programs.{isToken, isToken2022}
-use Rattle.token.specs.Tokens.{initialises, plainTransfer, checkedTransfer, feeTransfer, tokenOf}
+use Rattle.token.specs.Tokens.{initialises, plainTransfer, checkedTransfer, feeTransfer, plainAmount, checkedAmount, feeTransferAmount, feeTransferFee, tokenOf}
 use Rattle.token.specs.declared.Token.{Token}
 use Rattle.token.specs.declared.Token.the-variants.{Other, Initialise, Plain, Checked, WithFee}
 
@@ -25,9 +24,9 @@ pub record Tests (id : Id) (n : ℕ) (d : List ℕ) (i p c f : Bool) : Type 0 wh
 
 pub data Said (id : Id) (n : ℕ) (d : List ℕ) : Token → Type 0 where
   initialised : Tests id n d true false false false → 2 ≤ n → Said id n d Initialise
-  plainly : Tests id n d false true false false → 3 ≤ n → Said id n d (Plain (le 8 d 1))
-  checkedly : Tests id n d false false true false → 4 ≤ n → Said id n d (Checked (le 8 d 1))
-  feely : Tests id n d false false false true → 4 ≤ n → Said id n d (WithFee (le 8 d 2) (le 8 d 11))
+  plainly : Tests id n d false true false false → 3 ≤ n → Said id n d (Plain (plainAmount d))
+  checkedly : Tests id n d false false true false → 4 ≤ n → Said id n d (Checked (checkedAmount d))
+  feely : Tests id n d false false false true → 4 ≤ n → Said id n d (WithFee (feeTransferAmount d) (feeTransferFee d))
   otherwise : Tests id n d false false false false → Said id n d Other
 
 module _ (id : Id) (n : ℕ) (d : List ℕ) where

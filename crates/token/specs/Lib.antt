@@ -5,3 +5,4 @@ pub mod Transfers
 pub mod Moved
 pub mod Rows
 pub mod Published
+pub mod ByLayout

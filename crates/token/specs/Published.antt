@@ -1,20 +1,24 @@
--- The published layouts of the instructions that are read, of the System program, SPL Token and Token-2022: how their bytes begin, the fields
--- that follow, and the accounts that they name. The programs' own decoders ignore bytes and accounts that come after.
+-- The published layouts of the instructions that are read, of the System program, SPL Token and Token-2022: which programs have the instruction, how
+-- its bytes begin, the fields that follow, and the accounts that it names. The programs' own decoders ignore bytes and accounts that come after.
 -- Assumes nothing.
-use Prim.Native.Nat.{ℕ, zero, suc, _+_}
-use mathlib.Core.Bool.{Bool, cond, _&&_}
+use Prim.Native.Nat.{ℕ, suc, _+_}
+use mathlib.Core.Bool.{Bool, false, cond, _&&_, _||_}
 use mathlib.Core.List.{List, [], _∷_}
-use lib.Dec.{leb, eqb}
-use lib.ListN.{length, take}
+use mathlib.Core.Option.{Option, none, some, Option·map}
+use lib.Dec.{ltb, leb, eqb}
+use lib.ListN.{length, getD, take}
 use Rattle.wire.specs.Le.{le}
 use Rattle.wire.specs.Same.{same}
-use Rattle.ids.specs.Keys.{Key, account}
+use Rattle.ids.specs.declared.Id.{Id}
+use Rattle.ids.specs.declared.Id.the-variants.{SplToken, Token2022, System}
+use Rattle.ids.specs.Which.{numberOf}
 
 -- what a field or an account of an instruction is called: `held` is the token account that it is about
 pub data Name : Type 0 where
   held source destination mint authority owner rent : Name
   amount decimals fee lamports : Name
 
+-- a number for each, by which names are compared
 abbrev pub rank : Name → ℕ
 rank held = 0
 rank source = 1
@@ -28,38 +32,50 @@ rank decimals = 8
 rank fee = 9
 rank lamports = 10
 
--- the bytes that an instruction begins with, its fields with their widths, its accounts
+-- the programs that have an instruction, the bytes that it begins with, its fields with their widths, its accounts
 pub record Layout : Type 0 where
+  pub programs : List Id
   pub tag : List ℕ
   pub fields : List (Name × ℕ)
   pub accounts : List Name
 
 -- System: Transfer
 unfoldable pub systemTransfer : Layout
-systemTransfer = record { tag = 2 ∷ 0 ∷ 0 ∷ 0 ∷ []; fields = (lamports, 8) ∷ []; accounts = source ∷ destination ∷ [] }
+systemTransfer =
+    record { programs = System ∷ []; tag = 2 ∷ 0 ∷ 0 ∷ 0 ∷ []; fields = (lamports, 8) ∷ []; accounts = source ∷ destination ∷ [] }
 
 -- SPL Token and Token-2022: InitializeAccount, InitializeAccount2, InitializeAccount3
 unfoldable pub initializeAccount : Layout
-initializeAccount = record { tag = 1 ∷ []; fields = []; accounts = held ∷ mint ∷ owner ∷ rent ∷ [] }
+initializeAccount =
+    record { programs = SplToken ∷ Token2022 ∷ []; tag = 1 ∷ []; fields = []; accounts = held ∷ mint ∷ owner ∷ rent ∷ [] }
 
 unfoldable pub initializeAccount2 : Layout
-initializeAccount2 = record { tag = 16 ∷ []; fields = (owner, 32) ∷ []; accounts = held ∷ mint ∷ rent ∷ [] }
+initializeAccount2 =
+    record { programs = SplToken ∷ Token2022 ∷ []; tag = 16 ∷ []; fields = (owner, 32) ∷ []; accounts = held ∷ mint ∷ rent ∷ [] }
 
 unfoldable pub initializeAccount3 : Layout
-initializeAccount3 = record { tag = 18 ∷ []; fields = (owner, 32) ∷ []; accounts = held ∷ mint ∷ [] }
+initializeAccount3 =
+    record { programs = SplToken ∷ Token2022 ∷ []; tag = 18 ∷ []; fields = (owner, 32) ∷ []; accounts = held ∷ mint ∷ [] }
 
 -- SPL Token and Token-2022: Transfer, TransferChecked
 unfoldable pub transfer : Layout
-transfer = record { tag = 3 ∷ []; fields = (amount, 8) ∷ []; accounts = source ∷ destination ∷ authority ∷ [] }
+transfer =
+    record { programs = SplToken ∷ Token2022 ∷ []; tag = 3 ∷ []; fields = (amount, 8) ∷ []; accounts = source ∷ destination ∷ authority ∷ [] }
 
 unfoldable pub transferChecked : Layout
 transferChecked =
-    record { tag = 12 ∷ []; fields = (amount, 8) ∷ (decimals, 1) ∷ []; accounts = source ∷ mint ∷ destination ∷ authority ∷ [] }
+    record {
+      programs = SplToken ∷ Token2022 ∷ [];
+      tag = 12 ∷ [];
+      fields = (amount, 8) ∷ (decimals, 1) ∷ [];
+      accounts = source ∷ mint ∷ destination ∷ authority ∷ [];
+    }
 
--- Token-2022, transfer fee extension: TransferCheckedWithFee
+-- Token-2022 alone, transfer fee extension: TransferCheckedWithFee
 unfoldable pub transferCheckedWithFee : Layout
 transferCheckedWithFee =
     record {
+      programs = Token2022 ∷ [];
       tag = 26 ∷ 1 ∷ [];
       fields = (amount, 8) ∷ (decimals, 1) ∷ (fee, 8) ∷ [];
       accounts = source ∷ mint ∷ destination ∷ authority ∷ [];
@@ -67,20 +83,39 @@ transferCheckedWithFee =
 
 -- SPL Token and Token-2022: SyncNative, CloseAccount
 unfoldable pub syncNative : Layout
-syncNative = record { tag = 17 ∷ []; fields = []; accounts = held ∷ [] }
+syncNative = record { programs = SplToken ∷ Token2022 ∷ []; tag = 17 ∷ []; fields = []; accounts = held ∷ [] }
 
 unfoldable pub closeAccount : Layout
-closeAccount = record { tag = 9 ∷ []; fields = []; accounts = held ∷ destination ∷ authority ∷ [] }
+closeAccount =
+    record { programs = SplToken ∷ Token2022 ∷ []; tag = 9 ∷ []; fields = []; accounts = held ∷ destination ∷ authority ∷ [] }
 
--- where a field stands after the tag
-unfoldable pub before : Name → List (Name × ℕ) → ℕ
-before x [] = 0
-before x (f ∷ fs) = let rest = before x fs in cond (eqb (rank x) (rank (f .0))) 0 (f .1 + rest)
+-- all nine
+unfoldable pub layouts : List Layout
+layouts =
+    systemTransfer ∷ initializeAccount ∷ initializeAccount2 ∷ initializeAccount3 ∷ transfer ∷ transferChecked ∷ transferCheckedWithFee ∷ syncNative ∷ closeAccount ∷ []
 
--- which account has a name
-unfoldable pub place : Name → List Name → ℕ
-place x [] = 0
-place x (y ∷ ys) = let rest = place x ys in cond (eqb (rank x) (rank y)) 0 (suc rest)
+-- where a field stands and how wide it is: the fields follow one another, the first at byte `at`; none where no field has the name
+unfoldable pub field : Name → ℕ → List (Name × ℕ) → Option (ℕ × ℕ)
+field x at [] = none
+field x at (f ∷ fs) = let rest = field x (at + f .1) fs in cond (eqb (rank x) (rank (f .0))) (some (at, f .1)) rest
+
+-- the number that a field holds, least byte first
+unfoldable pub number : Layout → Name → List ℕ → Option ℕ
+number l x d = Option·map (λ (f : ℕ × ℕ). le (f .1) d (f .0)) (field x (length (l .tag)) (l .fields))
+
+-- which account has a name, counted from 0; none where no account has it
+unfoldable pub place : Name → List Name → Option ℕ
+place x [] = none
+place x (y ∷ ys) = let rest = place x ys in cond (eqb (rank x) (rank y)) (some 0) (Option·map suc rest)
+
+-- what stands at a place of an instruction's accounts; none past their end
+unfoldable pub standing : List ℕ → Option ℕ → Option ℕ
+standing accounts none = none
+standing accounts (some i) = cond (ltb i (length accounts)) (some (getD accounts i 0)) none
+
+-- an account by its name: its index among the transaction's keys
+unfoldable pub role : Layout → Name → List ℕ → Option ℕ
+role l x accounts = standing accounts (place x (l .accounts))
 
 unfoldable pub total : List (Name × ℕ) → ℕ
 total [] = 0
@@ -90,22 +125,15 @@ total (f ∷ fs) = f .1 + total fs
 unfoldable pub size : Layout → ℕ
 size l = length (l .tag) + total (l .fields)
 
--- a field of eight bytes
-unfoldable pub number : Layout → Name → List ℕ → ℕ
-number l x d = le 8 d (length (l .tag) + before x (l .fields))
-
--- an account by its name
-unfoldable pub role : Layout → Name → (ℕ → Key) → List ℕ → Key
-role l x κ accounts = account κ accounts (place x (l .accounts))
-
 -- whether data begins with these bytes
 unfoldable pub starts : List ℕ → List ℕ → Bool
 starts p d = same (take (length p) d) p
 
--- an instruction of this layout: data d, and n accounts
-unfoldable pub fits : Layout → ℕ → List ℕ → Bool
-fits l n d = starts (l .tag) d && (leb (size l) (length d) && leb (length (l .accounts)) n)
+-- whether a program is one of these
+unfoldable pub oneOf : List Id → Id → Bool
+oneOf [] id = false
+oneOf (p ∷ ps) id = eqb (numberOf id) (numberOf p) || oneOf ps id
 
--- the same with no byte after the fields, and m accounts enough
-unfoldable pub exact : Layout → ℕ → ℕ → List ℕ → Bool
-exact l m n d = starts (l .tag) d && (eqb (length d) (size l) && leb m n)
+-- an instruction of this layout: program id, n accounts, data d
+unfoldable pub fits : Layout → Id → ℕ → List ℕ → Bool
+fits l id n d = oneOf (l .programs) id && starts (l .tag) d && leb (size l) (length d) && leb (length (l .accounts)) n

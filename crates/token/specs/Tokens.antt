@@ -28,11 +28,24 @@ checkedTransfer id n d = isToken id && eqb (getD d 0 0) 12 && leb 10 (length d) 
 unfoldable pub feeTransfer : Id → ℕ → List ℕ → Bool
 feeTransfer id n d = isToken2022 id && (eqb (getD d 0 0) 26 && eqb (getD d 1 0) 1) && leb 19 (length d) && leb 4 n
 
+-- the numbers that they name: the amount of each, and the fee
+abbrev pub plainAmount : List ℕ → ℕ
+plainAmount d = le 8 d 1
+
+abbrev pub checkedAmount : List ℕ → ℕ
+checkedAmount d = le 8 d 1
+
+abbrev pub feeTransferAmount : List ℕ → ℕ
+feeTransferAmount d = le 8 d 2
+
+abbrev pub feeTransferFee : List ℕ → ℕ
+feeTransferFee d = le 8 d 11
+
 -- which of these an instruction is, with the numbers that it names; no two of them share a tag
 unfoldable pub tokenOf : Id → ℕ → List ℕ → Token
 tokenOf id n d =
     cond (initialises id n d) Initialise
-    (cond (plainTransfer id n d) (Plain (le 8 d 1))
-    (cond (checkedTransfer id n d) (Checked (le 8 d 1))
-    (cond (feeTransfer id n d) (WithFee (le 8 d 2) (le 8 d 11))
+    (cond (plainTransfer id n d) (Plain (plainAmount d))
+    (cond (checkedTransfer id n d) (Checked (checkedAmount d))
+    (cond (feeTransfer id n d) (WithFee (feeTransferAmount d) (feeTransferFee d))
     Other)))

@@ -5,11 +5,10 @@ use mathlib.Core.Bool.{cond, _||_}
 use mathlib.Core.List.{List}
 use mathlib.Core.Option.{Option, none, some}
 use lib.ListN.{length}
-use Rattle.wire.specs.Le.{le}
 use Rattle.ids.specs.declared.Id.{Id}
 use Rattle.ids.specs.Keys.{Key, isZero, account}
 use Rattle.token.specs.Programs.{isSpl}
-use Rattle.token.specs.Tokens.{plainTransfer, checkedTransfer, feeTransfer}
+use Rattle.token.specs.Tokens.{plainTransfer, checkedTransfer, feeTransfer, plainAmount, checkedAmount, feeTransferAmount, feeTransferFee}
 
 pub record Transfer : Type 0 where
   pub source : Key
@@ -35,9 +34,9 @@ checked κ accounts amount fee =
 
 unfoldable pub transfer : (ℕ → Key) → Id → List ℕ → List ℕ → Option Transfer
 transfer κ id accounts d =
-    cond (plainTransfer id (length accounts) d) (plainly κ accounts (le 8 d 1) (feeOf id))
-    (cond (checkedTransfer id (length accounts) d) (checked κ accounts (le 8 d 1) (feeOf id))
-    (cond (feeTransfer id (length accounts) d) (checked κ accounts (le 8 d 2) (some (le 8 d 11)))
+    cond (plainTransfer id (length accounts) d) (plainly κ accounts (plainAmount d) (feeOf id))
+    (cond (checkedTransfer id (length accounts) d) (checked κ accounts (checkedAmount d) (feeOf id))
+    (cond (feeTransfer id (length accounts) d) (checked κ accounts (feeTransferAmount d) (some (feeTransferFee d)))
     none))
 
 -- how many transfers, and so rows, there are
