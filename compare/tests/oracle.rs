@@ -19,8 +19,9 @@ fn refusals_of_document_01() {
 #[test]
 fn ids_agree() {
     assert_eq!(ids::distinct(), Ok(()));
+    assert_eq!(ids::decoded(), Ok(()));
     assert_eq!(ids::bindings(), Ok(()));
-    match ids::agree() {
+    match ids::decoded_again() {
         Some(outcome) => assert_eq!(outcome, Ok(())),
         None => println!("no python3: the second decoder was not run"),
     }

@@ -16,9 +16,10 @@ fn main() -> ExitCode {
         tally.add(name, example());
     }
     tally.add("the ids are distinct", ids::distinct());
-    tally.add("the bindings' ids and names are the original's", ids::bindings());
-    match ids::agree() {
-        Some(outcome) => tally.add("both decoders of the ids agree", outcome),
+    tally.add("the original's ids are those of crates/ids", ids::decoded());
+    tally.add("the bindings' ids are those of crates/ids, and their names", ids::bindings());
+    match ids::decoded_again() {
+        Some(outcome) => tally.add("the second decoder's ids are those of crates/ids", outcome),
         None => println!("python3 is not installed: the second decoder of the ids was not run"),
     }
     tally.add("the sample in examples/", sample::committed());
