@@ -2,8 +2,9 @@
 
 use crate::checks::{coverage, mutants};
 use crate::generate::case;
+use crate::library::TOLD;
 use crate::oracle::fit;
-use crate::stored;
+use crate::{damaged, stored};
 use std::collections::{BTreeMap, BTreeSet};
 
 /// They are chosen among the packs of the first seeds.
@@ -11,21 +12,29 @@ const SEEDS: u64 = 20_000;
 
 /// How many there are at least, and how long those are that nothing but their number asks for.
 const LEAST: usize = 1_200;
-const SHORT: usize = 2_000;
+const SHORT: usize = 1_500;
 
-/// What the program `replay` reads and what it has to print: the file's name, and its bytes.
+/// What the program `replay` reads and what it has to print: the file's name, and its bytes. Behind
+/// the right records stand damaged ones.
 pub fn files() -> [(&'static str, Vec<u8>); 2] {
     let seeds = seeds();
-    let printed = format!("{} answers, 0 different\n", seeds.len());
-    let records = seeds.into_iter().flat_map(|seed| {
+    let damaged = damaged::records();
+    let mut printed = String::new();
+    for (number, (_, what)) in (seeds.len()..).zip(&damaged).take(TOLD) {
+        printed += &format!("record {number}: {what}\n");
+    }
+    let answers = seeds.len() + damaged.len();
+    printed += &format!("{answers} answers, {} different\n", damaged.len());
+    let right = seeds.into_iter().map(|seed| {
         let (case, examined) = case(seed);
         stored::write(&case, &fit(&examined, &case.lengths))
     });
-    [("stdin", records.collect()), ("stdout", printed.into_bytes())]
+    let records = right.chain(damaged.into_iter().map(|(record, _)| record));
+    [("stdin", records.flatten().collect()), ("stdout", printed.into_bytes())]
 }
 
-/// For each feature that must occur the shortest record that shows it, for each deliberate break of
-/// the original the first that notices it, and the first short ones.
+/// For each feature that must occur the shortest record that shows it; for each deliberate break of
+/// the original that none of these notices the first that does; and the first short ones.
 fn seeds() -> BTreeSet<u64> {
     let mut shortest: BTreeMap<String, (usize, u64)> = BTreeMap::new();
     let mut short = Vec::new();
@@ -41,9 +50,9 @@ fn seeds() -> BTreeSet<u64> {
             short.push(seed);
         }
     }
-    let noticing = mutants::first_noticed(0..SEEDS).into_iter().filter_map(|mutant| mutant.1);
     let mut seeds: BTreeSet<u64> = shortest.into_values().map(|(_, seed)| seed).collect();
-    seeds.extend(noticing);
+    let noticing = mutants::first_noticed(seeds.clone().into_iter().chain(0..SEEDS));
+    seeds.extend(noticing.into_iter().filter_map(|mutant| mutant.1));
     for seed in short {
         if seeds.len() >= LEAST {
             break;

@@ -4,6 +4,7 @@
 pub mod calls;
 pub mod checks;
 pub mod chosen;
+pub mod damaged;
 pub mod generate;
 pub mod grids;
 pub mod library;

@@ -1,6 +1,8 @@
 //! The oracle and its generated packs, checked by themselves.
 
-use compare::checks::{cases::CASES, coverage, ids, mutants, packs, refusals::REFUSALS, sample};
+use compare::checks::{
+    cases::CASES, chosen, coverage, ids, mutants, packs, refusals::REFUSALS, sample,
+};
 
 #[test]
 fn cases_of_document_01() {
@@ -55,6 +57,14 @@ fn every_feature_occurs() {
 #[test]
 fn every_mutant_is_noticed() {
     for (name, first) in mutants::first_noticed(0..20_000) {
+        println!("{first:?} {name}");
+        assert!(first.is_some(), "{name} is not noticed");
+    }
+}
+
+#[test]
+fn stored_answers_notice_every_mutant() {
+    for (name, first) in chosen::first_noticed().expect("crates/replay has stored answers") {
         println!("{first:?} {name}");
         assert!(first.is_some(), "{name} is not noticed");
     }

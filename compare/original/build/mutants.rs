@@ -42,6 +42,19 @@ pub const MUTANTS: &[Mutant] = &[
         "false",
     ),
     mutant(
+        "a balance's index is cut to a byte",
+        "key(&keys, balance.account_index)",
+        "balance.account_index",
+        "balance.account_index % 256",
+    ),
+    mutant(
+        "a checked transfer records its source alone",
+        "if checked_transfer(ix) {\n            let mint = account(ix, &keys, 1);\n            record(&mut mints, account(ix, &keys, 0), mint);\n            \
+         record(&mut mints, account(ix, &keys, 2), mint);",
+        "account(ix, &keys, 2)",
+        "Pubkey::default()",
+    ),
+    mutant(
         "initialise needs three accounts",
         "&& ix.accounts.len() >= 2\n            && matches!",
         "ix.accounts.len() >= 2",
@@ -53,12 +66,30 @@ pub const MUTANTS: &[Mutant] = &[
         "matches!((ix.data.first(), ix.data.len()), (Some(1), 1) | (Some(16 | 18), 33))",
         "matches!((ix.data.first(), ix.data.len()), (Some(1), 1..) | (Some(16 | 18), 33..))",
     ),
+    mutant(
+        "a plain transfer of two accounts hands a mint on",
+        "&& ix.data.len() >= 9\n                && ix.accounts.len() >= 3",
+        "ix.accounts.len() >= 3",
+        "ix.accounts.len() >= 2",
+    ),
+    mutant(
+        "a plain transfer of eight bytes hands a mint on",
+        "&& ix.data.len() >= 9\n                && ",
+        "ix.data.len() >= 9",
+        "ix.data.len() >= 8",
+    ),
     mutant("one pass only", "if mints.len() == before {", "mints.len() == before", "true"),
     mutant("chains run one way", "source_mint.or(destination_mint)", "source_mint.or(destination_mint)", "source_mint"),
     mutant(
         "an ambiguity spreads",
         "if source_mint == Some(Pubkey::default())",
         "source_mint == Some(Pubkey::default())",
+        "false",
+    ),
+    mutant(
+        "an ambiguous destination is filled in",
+        "|| destination_mint == Some(Pubkey::default())",
+        "destination_mint == Some(Pubkey::default())",
         "false",
     ),
     mutant(
@@ -75,6 +106,18 @@ pub const MUTANTS: &[Mutant] = &[
     ),
     // Keys and flattening.
     mutant("a key of another length is resolved", "if bytes.len() != 32 {", "bytes.len() != 32", "false"),
+    mutant(
+        "a program's index is cut to a byte",
+        "let index = index as usize;\n        let bytes",
+        "index as usize",
+        "usize::from(index as u8)",
+    ),
+    mutant(
+        "a program's index is cut to 16 bits",
+        "else { index as usize });\n        let bytes",
+        "index as usize",
+        "usize::from(index as u16)",
+    ),
     mutant(
         "groups out of order are lost",
         "|&i| (meta.inner_instructions[i].index, i)",
@@ -93,6 +136,18 @@ pub const MUTANTS: &[Mutant] = &[
         "3 if ix.accounts.len() >= 3",
         "ix.accounts.len() >= 3",
         "ix.accounts.len() >= 2",
+    ),
+    mutant(
+        "a checked transfer of three accounts",
+        "ix.data.len() >= 10\n        && ix.accounts.len() >= 4",
+        "ix.accounts.len() >= 4",
+        "ix.accounts.len() >= 3",
+    ),
+    mutant(
+        "a with-fee transfer of three accounts",
+        "ix.data.len() >= 19\n        && ix.accounts.len() >= 4",
+        "ix.accounts.len() >= 4",
+        "ix.accounts.len() >= 3",
     ),
     mutant("a checked transfer of nine bytes", "ix.data.len() >= 10", "10", "9"),
     mutant("a with-fee transfer of eighteen bytes", "ix.data.len() >= 19", "19", "18"),
@@ -114,6 +169,12 @@ pub const MUTANTS: &[Mutant] = &[
         "None",
         "Some(0)",
     ),
+    mutant(
+        "no fee of a checked transfer where none is known",
+        "(2, 1, if ix.program == ROUTE_SPL_TOKEN { Some(0) } else { None })",
+        "None",
+        "Some(0)",
+    ),
     mutant("a transfer's mint is its destination's", "mint: mints.get(&source)", "&source", "&destination"),
     // Native actions.
     mutant("an unresolved zero program funds", "if !ix.program_resolved {", "!ix.program_resolved", "false"),
@@ -124,12 +185,30 @@ pub const MUTANTS: &[Mutant] = &[
         "false",
     ),
     mutant(
+        "an index equal to the key count is in range",
+        "else { ix.accounts.iter().any(|&index| index as usize >= keys.len()) }",
+        "index as usize >= keys.len()",
+        "index as usize > keys.len()",
+    ),
+    mutant(
         "any known mint serves a native action",
         "mints.get(&target) != Some(&wsol)",
         "mints.get(&target) != Some(&wsol)",
         "mints.get(&target).is_none()",
     ),
+    mutant(
+        "a fund under any tag",
+        "ix.data.get(..4) == Some(&2u32.to_le_bytes())",
+        "ix.data.get(..4) == Some(&2u32.to_le_bytes())",
+        "true",
+    ),
     mutant("a fund with more bytes", "ix.data.len() == 12", "ix.data.len() == 12", "ix.data.len() >= 12"),
+    mutant(
+        "a close of two accounts",
+        "ix.data == [9] && ix.accounts.len() >= 3",
+        "ix.accounts.len() >= 3",
+        "ix.accounts.len() >= 2",
+    ),
     mutant("a sync with more bytes", "ix.data == [17]", "ix.data == [17]", "ix.data.first() == Some(&17)"),
     mutant("a close with more bytes", "ix.data == [9]", "ix.data == [9]", "ix.data.first() == Some(&9)"),
     // Subtrees.
@@ -139,6 +218,19 @@ pub const MUTANTS: &[Mutant] = &[
         "ix.program_resolved",
         "true",
     ),
+    mutant(
+        "Compute Budget is not skipped",
+        "|| ix.program == ROUTE_COMPUTE_BUDGET",
+        "ix.program == ROUTE_COMPUTE_BUDGET",
+        "false",
+    ),
+    mutant(
+        "Associated Token is not skipped",
+        "|| ix.program == ROUTE_ASSOCIATED_TOKEN",
+        "ix.program == ROUTE_ASSOCIATED_TOKEN",
+        "false",
+    ),
+    mutant("Memo is not skipped", "|| ix.program == ROUTE_MEMO)", "ix.program == ROUTE_MEMO", "false"),
     mutant("equal heights are descendants", "(Some(a), Some(b)) => b > a,", "b > a", "b >= a"),
     mutant("absent heights are descendants", "            _ => false,\n        },", "false", "true"),
     mutant("blocks cross groups", "(Some(a), Some(b)) if b > a => match", "b > a", "true"),
@@ -155,6 +247,79 @@ pub const MUTANTS: &[Mutant] = &[
         "false",
     ),
     // Swap legs.
+    mutant(
+        "CLMM under any discriminator",
+        "== RAYDIUM_CLMM_PROGRAM_ID\n        && (disc == swap_disc || disc == swap_v2)",
+        "(disc == swap_disc || disc == swap_v2)",
+        "true",
+    ),
+    mutant(
+        "Orca under any discriminator",
+        "ORCA_WHIRLPOOL_PROGRAM_ID && (disc == swap_disc || disc == swap_v2)",
+        "(disc == swap_disc || disc == swap_v2)",
+        "true",
+    ),
+    mutant(
+        "Orca in one direction",
+        "(a(if direction { 3 } else { 5 }), a(if direction { 5 } else { 3 }))",
+        "(a(if direction { 3 } else { 5 }), a(if direction { 5 } else { 3 }))",
+        "(a(3), a(5))",
+    ),
+    mutant(
+        "Orca in the other direction",
+        "else { (a(if direction { 3 } else { 5 }), a(if direction { 5 } else { 3 })) }",
+        "(a(if direction { 3 } else { 5 }), a(if direction { 5 } else { 3 }))",
+        "(a(5), a(3))",
+    ),
+    mutant(
+        "Orca v2 in one direction",
+        "(a(if direction { 7 } else { 9 }), a(if direction { 9 } else { 7 }))",
+        "(a(if direction { 7 } else { 9 }), a(if direction { 9 } else { 7 }))",
+        "(a(7), a(9))",
+    ),
+    mutant(
+        "Orca v2 in the other direction",
+        "else { (a(if direction { 7 } else { 9 }), a(if direction { 9 } else { 7 })) }",
+        "(a(if direction { 7 } else { 9 }), a(if direction { 9 } else { 7 }))",
+        "(a(9), a(7))",
+    ),
+    mutant(
+        "CPMM under any discriminator",
+        "else if disc == Some(&SWAP_BASE_OUT[..])",
+        "disc == Some(&SWAP_BASE_OUT[..])",
+        "true",
+    ),
+    mutant(
+        "DLMM's price impact as exact out",
+        "else if disc == Some(&SWAP_EXACT_OUT[..]) || disc == Some(&SWAP_EXACT_OUT2[..])",
+        "disc == Some(&SWAP_EXACT_OUT[..]) || disc == Some(&SWAP_EXACT_OUT2[..])",
+        "true",
+    ),
+    mutant(
+        "LaunchLab under any discriminator",
+        "else if disc == Some(&SELL_EXACT_OUT[..])",
+        "disc == Some(&SELL_EXACT_OUT[..])",
+        "true",
+    ),
+    mutant("PumpFun under any discriminator", "if !(v2 || v3)", "!(v2 || v3)", "false"),
+    mutant(
+        "PumpSwap under any discriminator",
+        "else if disc == Some(&SELL[..]) || disc == Some(&SELL_V2[..])",
+        "disc == Some(&SELL[..]) || disc == Some(&SELL_V2[..])",
+        "true",
+    ),
+    mutant(
+        "AMM V4 under any tag with eight accounts",
+        "matches!(ix.data.first(), Some(16 | 17))",
+        "matches!(ix.data.first(), Some(16 | 17))",
+        "ix.data.first().is_some()",
+    ),
+    mutant(
+        "AMM V4 under any tag with seventeen accounts",
+        "matches!(ix.data.first(), Some(9 | 11))",
+        "matches!(ix.data.first(), Some(9 | 11))",
+        "ix.data.first().is_some()",
+    ),
     mutant("CLMM with nine accounts", "{ 13 } else { 10 }", "10", "9"),
     mutant("CLMM v2 with twelve accounts", "if disc == swap_v2 { 13 }", "13", "12"),
     mutant("Orca with ten accounts", "ix.accounts.len() < 11", "11", "10"),
@@ -168,6 +333,13 @@ pub const MUTANTS: &[Mutant] = &[
     mutant("DLMM with fourteen accounts", "if v2 { 16 } else { 15 }", "15", "14"),
     mutant("DLMM v2 with fifteen accounts", "let fixed = if v2 { 16 }", "16", "15"),
     mutant("a slice takes one account too many", "used > remaining", "remaining", "remaining + 1"),
+    mutant(
+        "each slice has all remaining accounts",
+        "used = used.checked_add(length)?",
+        "used.checked_add(length)?",
+        "length",
+    ),
+    mutant("an unknown slice tag of one byte", "3 => 2, _ => return None }", "return None", "1"),
     mutant("a slice tag of one byte", "3 => 2,", "2", "1"),
     mutant(
         "LaunchLab with fourteen accounts",
@@ -184,6 +356,12 @@ pub const MUTANTS: &[Mutant] = &[
         "quote == ROUTE_WSOL",
         "false",
     ),
+    mutant(
+        "PumpFun pays wrapped SOL into the token account",
+        "} else if quote == ROUTE_WSOL {",
+        "quote == ROUTE_WSOL",
+        "false",
+    ),
     mutant("PumpSwap with twenty accounts", "ix.accounts.len() >= 21", "21", "20"),
     mutant(
         "PumpSwap with eighteen accounts",
@@ -191,7 +369,9 @@ pub const MUTANTS: &[Mutant] = &[
         "ix.accounts.len() == 17",
         "matches!(ix.accounts.len(), 17 | 18)",
     ),
-    mutant("a sell's byte 24 is checked", "if buy && ix.data.len() > 24", "buy", "true"),
+    mutant("any byte is a truth value", "1 => Some(true),\n        _ => None,", "None", "Some(true)"),
+    mutant("a buy's byte 24 is not checked", "if buy && ix.data.len() > 24", "ix.data.len() > 24", "false"),
+    mutant("a sell's byte 24 is checked", "if buy && (", "buy", "true"),
     mutant("AMM V4 with seven accounts", "&& ix.accounts.len() >= 8", "8", "7"),
     mutant("AMM V4 with sixteen accounts", "&& ix.accounts.len() >= 17\n", "17", "16"),
     mutant("AMM V4 shifts at eighteen accounts", "usize::from(ix.accounts.len() == 17)", "17", "18"),
@@ -202,6 +382,27 @@ pub const MUTANTS: &[Mutant] = &[
         "if exact_in { first } else { second }",
         "first",
     ),
+    mutant(
+        "DLMM keeps the order of amounts",
+        "a(4),\n            a(5),\n            exact_in,\n            if exact_in { first } else { second },\n            \
+         if exact_in { second } else { first },\n        )\n    } else if ix.program == RAYDIUM_LAUNCHLAB_PROGRAM_ID",
+        "if exact_in { first } else { second }",
+        "first",
+    ),
+    mutant(
+        "AMM V4 keeps the order of amounts",
+        "a(5),\n            a(6),\n            exact_in,\n            if exact_in { first } else { second },",
+        "if exact_in { first } else { second }",
+        "first",
+    ),
+    mutant(
+        "AMM V4 keeps the order of amounts under tags 9 and 11",
+        "a(16 - shift),\n            exact_in,\n            if exact_in { first } else { second },",
+        "if exact_in { first } else { second }",
+        "first",
+    ),
+    mutant("CLMM's first version has a pair", "RaydiumClmm if disc == swap_v2", "disc == swap_v2", "true"),
+    mutant("Orca's first version has a pair", "OrcaWhirlpool if disc == swap_v2", "disc == swap_v2", "true"),
     mutant(
         "LaunchLab's pair by direction",
         "if input == a(6) { (a(10), a(9)) }",
@@ -224,11 +425,18 @@ pub const MUTANTS: &[Mutant] = &[
         "true",
     ),
     mutant(
+        "a zero pair key is the output's mint",
+        "explicit_pair.map(|pair| pair.1).filter(|mint| *mint != Pubkey::default())",
+        "*mint != Pubkey::default()",
+        "true",
+    ),
+    mutant(
         "any protocol graduates",
         "protocol == SwapProtocol::RaydiumCpmm && graduated",
         "protocol == SwapProtocol::RaydiumCpmm",
         "true",
     ),
+    mutant("nothing graduates", "graduated.contains(&pool)", "graduated.contains(&pool)", "false"),
     // Coinciding names.
     mutant(
         "base out wins",

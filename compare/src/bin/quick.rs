@@ -1,5 +1,5 @@
-//! The quick part of the comparison: cases, ids, 20,000 generated packs, coverage, mutants. The last
-//! line says how many checks passed and failed; the exit code is 0 only if none failed.
+//! The quick part of the comparison: cases, ids, 20,000 generated packs, coverage, mutants, stored
+//! answers. The last line says how many checks passed and failed; the exit code is 0 only if none failed.
 
 use compare::checks::{
     cases::CASES, chosen, coverage, ids, mutants, packs, refusals::REFUSALS, sample, Outcome,
@@ -32,6 +32,15 @@ fn main() -> ExitCode {
     }
     for (mutant, first) in mutants::first_noticed(0..SEEDS) {
         tally.add(mutant, first.map(|_| ()).ok_or("is not noticed".to_string()));
+    }
+    match chosen::first_noticed() {
+        Ok(found) => {
+            for (mutant, first) in found {
+                let noticed = first.map(|_| ()).ok_or("no stored answer notices it".to_string());
+                tally.add(mutant, noticed);
+            }
+        }
+        Err(wrong) => tally.add("the stored answers", Err(wrong)),
     }
     close(tally.passed, tally.failed)
 }

@@ -64,7 +64,7 @@ pub fn decoded() -> Outcome {
     held(&lines())
 }
 
-/// What the Python program decodes the original's literals to. Without Python there is nothing to hold.
+/// The original's literals, by the Python program. Without Python there is nothing to hold.
 pub fn decoded_again() -> Option<Outcome> {
     let script = concat!(env!("CARGO_MANIFEST_DIR"), "/ids.py");
     match Command::new("python3").arg(script).env("MBELAGUY_RUST_SRC", original::SOURCE).output() {

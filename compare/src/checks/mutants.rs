@@ -1,25 +1,34 @@
-//! Whether the generated packs notice when the original is broken on purpose.
+//! Whether calls notice when the original is broken on purpose.
 
-use crate::generate::case;
-use crate::oracle::{examine_mutant, fit};
-use std::ops::Range;
+use crate::generate::{case, Case};
+use crate::oracle::{examine_mutant, fit, Reply};
 
-/// For each deliberate break, by name, the first seed whose answer differs.
-pub fn first_noticed(seeds: Range<u64>) -> Vec<(&'static str, Option<u64>)> {
+/// For each deliberate break, by name, the first of some seeds whose answer differs.
+pub fn first_noticed(seeds: impl Iterator<Item = u64>) -> Vec<(&'static str, Option<u64>)> {
+    first_of(seeds.map(|seed| {
+        let (case, examined) = case(seed);
+        let reply = fit(&examined, &case.lengths);
+        (seed, case, reply)
+    }))
+}
+
+/// The same of numbered calls with the original's answers.
+pub fn first_of(
+    calls: impl Iterator<Item = (u64, Case, Reply)>,
+) -> Vec<(&'static str, Option<u64>)> {
     let mut found: Vec<_> = original::MUTANTS.iter().map(|name| (*name, None)).collect();
-    for seed in seeds {
+    for (call, case, reply) in calls {
         if found.iter().all(|mutant| mutant.1.is_some()) {
             break;
         }
-        let (case, examined) = case(seed);
-        if examined.is_err() {
+        // Refusals 1 to 7 are decided without the original.
+        if matches!(reply.answer.number, 1..=7) {
             continue;
         }
-        let reply = fit(&examined, &case.lengths);
         for (number, (_, first)) in found.iter_mut().enumerate().filter(|one| one.1 .1.is_none()) {
             let broken = examine_mutant(Some(number), &case.names, &case.pack);
             if fit(&broken, &case.lengths) != reply {
-                *first = Some(seed);
+                *first = Some(call);
             }
         }
     }

@@ -142,6 +142,7 @@ fn accounts(form: &Form, world: &World, rng: &mut Rng) -> Vec<u8> {
 
 fn data(form: &Form, accounts: usize, world: &World, rng: &mut Rng) -> Vec<u8> {
     let mut data = form.prefix(&world.names);
+    let start = data.len();
     data.extend(rng.amount().to_le_bytes());
     data.extend(rng.amount().to_le_bytes());
     if form.has_slices() {
@@ -158,6 +159,11 @@ fn data(form: &Form, accounts: usize, world: &World, rng: &mut Rng) -> Vec<u8> {
     }
     if !form.has_slices() || rng.chance(20) {
         data.truncate(length);
+    }
+    if rng.chance(3) {
+        // Nearly the discriminator or tag.
+        let at = rng.below(start);
+        data[at] ^= 1 << rng.below(8);
     }
     if rng.chance(2) {
         let short = rng.below(9);

@@ -1,6 +1,6 @@
 //! Calls in this process.
 
-use super::Verdict;
+use super::{Verdict, TOLD};
 use crate::generate::Case;
 use crate::oracle::Reply;
 use mbelaguy::route_into;
@@ -17,7 +17,7 @@ impl Library {
 
     pub fn call(&mut self, case: &Case, reply: &Reply) -> Result<(), String> {
         if let Some(what) = difference(case, reply) {
-            if self.0.different < 10 {
+            if self.0.different < TOLD {
                 self.0.told.push((self.0.answers, what));
             }
             self.0.different += 1;

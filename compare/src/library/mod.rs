@@ -11,7 +11,10 @@ pub use linked::Library;
 #[cfg(not(feature = "link"))]
 pub use program::Library;
 
-/// What came of the calls. The first ten that differ are told of.
+/// How many of the calls that differ are told of: the first ones.
+pub const TOLD: usize = 10;
+
+/// What came of the calls.
 #[derive(Debug, Default, PartialEq, Eq)]
 pub struct Verdict {
     pub answers: usize,

@@ -3,7 +3,7 @@ use route::Answer;
 ghost use Prim.Native.Nat.{_≤_};
 
 // What an answer differs in from the stored one.
-pub enum Found {
+pub(crate) enum Found {
     Same,
     Numbers,
     Mints,
@@ -15,7 +15,7 @@ pub enum Found {
 }
 
 // 1 for a difference.
-pub fn count(found: Found) -> u32
+pub(crate) fn count(found: Found) -> u32
     ensures { λ r. ⌜ r ≤ 1 ⌝ }
 {
     match found {
@@ -158,7 +158,7 @@ fn again(
 }
 
 // The call of a record, and what is stored of its answer.
-pub fn record(
+pub(crate) fn record(
     bytes: &[u8],
     mints: &mut [u8],
     invocations: &mut [u8],

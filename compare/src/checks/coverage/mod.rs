@@ -205,11 +205,15 @@ impl Coverage {
         Coverage(required().into_iter().map(|name| (name, 0)).collect())
     }
 
+    /// A call that is refused shows its refusal alone: what its pack holds leaves nothing in the tables.
     fn note_call(&mut self, case: &Case, examined: &Result<Examined, Refusal>, reply: &Reply) {
         self.note_answer(case, reply);
         let Ok(examined) = examined else { return };
-        self.note_names(case);
         self.note_room(case, examined);
+        if reply.answer.number != 0 {
+            return;
+        }
+        self.note_names(case);
         self.note_pack(examined);
         self.note_mints(examined);
         self.note_trees(examined);
