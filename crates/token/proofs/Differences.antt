@@ -99,6 +99,9 @@ module _ (id : Id) (n : ℕ) where
       (λ (e : x ≡ 18). simp (e, and-true, and-false))
       (λ c. simp (ne-eqb x 1 a, ne-eqb x 16 b, ne-eqb x 18 c, and-false))))
 
+  pub initialise-accepts : (d : List ℕ) → initialises id n d ≡ (exact initializeAccount 2 id n d || exact initializeAccount2 2 id n d || exact initializeAccount3 2 id n d)
+  initialise-accepts d = initialise-one d ∙ rw (initialise-1 d, initialise-2 d, initialise-3 d)
+
 -- published and not taken; taken and not published
 abbrev pub Listed : Bool → Bool → Bool → Bool → Type 0
 Listed published taken missed added = ((published && not taken) ≡ missed) × ((taken && not published) ≡ added)

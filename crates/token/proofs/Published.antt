@@ -1,6 +1,6 @@
 -- Every account and number that is read of an instruction is the one that the published layout has under its name.
 -- Assumes nothing.
-use mathlib.Core.Path.{_≡_, refl, sym, _∙_}
+use mathlib.Core.Path.{_≡_, refl}
 use mathlib.Core.Bool.{Bool, true, false, cond, _&&_, _||_, or-false}
 use mathlib.Core.List.{List, [], _∷_}
 use mathlib.Core.Option.{Option·elim, bind, orElse}
@@ -16,13 +16,13 @@ use Rattle.token.specs.Tokens.{initialises, checkedTransfer, feeTransfer
 use Rattle.token.specs.Records.{records, bothEnds, plain}
 use Rattle.token.specs.Transfers.{plainly, checked, transfer as transferOf}
 use Rattle.token.specs.Published.{Layout, source, destination, mint, authority, field, number, place, standing, role, size, starts, oneOf, fits, transfer, transferChecked, transferCheckedWithFee, initializeAccount, initializeAccount2, initializeAccount3}
-use Rattle.token.specs.ByLayout.{exact, initialisesAs, pair, told, sent, publishedToken, publishedTransfer, publishedInitialise, publishedRecords, publishedPlain}
-use Rattle.token.proofs.Differences.{plain-agrees, checked-agrees, fee-agrees, initialise-1, initialise-2, initialise-3, initialise-one}
+use Rattle.token.specs.ByLayout.{exact, pair, told, sent, publishedToken, publishedTransfer, publishedInitialise, publishedRecords, publishedPlain}
+use Rattle.token.proofs.Differences.{plain-agrees, checked-agrees, fee-agrees, initialise-accepts}
 
 -- the enum that an instruction is read into
 pub token-published : (id : Id) (n : ℕ) (d : List ℕ) → tokenOf id n d ≡ publishedToken id n d
 unfolding tokenOf publishedToken number field transfer transferChecked transferCheckedWithFee Option·elim
-token-published id n d = rw (plain-agrees id n d, checked-agrees id n d, fee-agrees id n d)
+token-published id n d = rw (initialise-accepts id n d, plain-agrees id n d, checked-agrees id n d, fee-agrees id n d)
 
 -- an instruction that is taken has the accounts that are wanted
 pub fits-accounts : (l : Layout) (id : Id) (n : ℕ) (d : List ℕ) → fits l id n d ≡ true → length (l .accounts) ≤ n
@@ -75,22 +75,22 @@ module _ (κ : ℕ → Key) (id : Id) (a d : List ℕ) where
           simp (q, lt-ltb 0 (length a) (omega arith), lt-ltb 1 (length a) (omega arith), lt-ltb 2 (length a) (omega arith))
       go false e = refl
 
-  -- and what an initialise tells, by its tag
+  -- and what an initialise tells
   initialise-told : cond (initialises id (length a) d) ((account κ a 0, account κ a 1) ∷ []) [] ≡ publishedInitialise κ id a d
   unfolding publishedInitialise told pair role standing place initializeAccount initializeAccount2 initializeAccount3
   initialise-told =
-      rw (initialise-one id (length a) d)
-      (go (initialisesAs initializeAccount id (length a) d) refl (initialisesAs initializeAccount2 id (length a) d) refl (initialisesAs initializeAccount3 id (length a) d) refl)
+      rw (initialise-accepts id (length a) d)
+      (go (exact initializeAccount 2 id (length a) d) refl (exact initializeAccount2 2 id (length a) d) refl (exact initializeAccount3 2 id (length a) d) refl)
     where
-      go : (i : Bool) → initialisesAs initializeAccount id (length a) d ≡ i → (j : Bool) → initialisesAs initializeAccount2 id (length a) d ≡ j → (k : Bool) → initialisesAs initializeAccount3 id (length a) d ≡ k → cond (i || j || k) ((account κ a 0, account κ a 1) ∷ []) [] ≡ cond i (told initializeAccount κ a) (cond j (told initializeAccount2 κ a) (cond k (told initializeAccount3 κ a) []))
+      go : (i : Bool) → exact initializeAccount 2 id (length a) d ≡ i → (j : Bool) → exact initializeAccount2 2 id (length a) d ≡ j → (k : Bool) → exact initializeAccount3 2 id (length a) d ≡ k → cond (i || j || k) ((account κ a 0, account κ a 1) ∷ []) [] ≡ cond i (told initializeAccount κ a) (cond j (told initializeAccount2 κ a) (cond k (told initializeAccount3 κ a) []))
       go true e j f k g =
-          let h = exact-accounts initializeAccount 2 id (length a) d (sym (initialise-1 id (length a) d) ∙ e) in
+          let h = exact-accounts initializeAccount 2 id (length a) d e in
           simp (lt-ltb 0 (length a) (omega arith), lt-ltb 1 (length a) (omega arith))
       go false e true f k g =
-          let h = exact-accounts initializeAccount2 2 id (length a) d (sym (initialise-2 id (length a) d) ∙ f) in
+          let h = exact-accounts initializeAccount2 2 id (length a) d f in
           simp (lt-ltb 0 (length a) (omega arith), lt-ltb 1 (length a) (omega arith))
       go false e false f true g =
-          let h = exact-accounts initializeAccount3 2 id (length a) d (sym (initialise-3 id (length a) d) ∙ g) in
+          let h = exact-accounts initializeAccount3 2 id (length a) d g in
           simp (lt-ltb 0 (length a) (omega arith), lt-ltb 1 (length a) (omega arith))
       go false e false f false g = refl
 

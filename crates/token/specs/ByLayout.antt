@@ -18,7 +18,7 @@ use Rattle.token.specs.Published.{Name, Layout, held, source, destinatio
 unfoldable pub exact : Layout → ℕ → Id → ℕ → List ℕ → Bool
 exact l m id n d = oneOf (l .programs) id && starts (l .tag) d && eqb (length d) (size l) && leb m n
 
--- which of the three initialise instructions is taken: the one whose tag stands there
+-- as which of the three an initialise is taken: the one whose tag stands there
 unfoldable pub initialisesAs : Layout → Id → ℕ → List ℕ → Bool
 initialisesAs l id n d = initialises id n d && starts (l .tag) d
 
@@ -52,7 +52,7 @@ sent l κ id accounts d =
 -- which token instruction it is, with its numbers
 unfoldable pub publishedToken : Id → ℕ → List ℕ → Token
 publishedToken id n d =
-    cond (initialises id n d) Initialise
+    cond (exact initializeAccount 2 id n d || exact initializeAccount2 2 id n d || exact initializeAccount3 2 id n d) Initialise
     (cond (fits transfer id n d) (Option·elim (number transfer amount d) Other Plain)
     (cond (fits transferChecked id n d) (Option·elim (number transferChecked amount d) Other Checked)
     (cond (fits transferCheckedWithFee id n d)
@@ -67,12 +67,12 @@ publishedTransfer κ id accounts d =
     (cond (fits transferCheckedWithFee id (length accounts) d) (sent transferCheckedWithFee κ id accounts d)
     none))
 
--- an initialise tells what the layout of its tag does
+-- what an initialise tells of mints
 unfoldable pub publishedInitialise : (ℕ → Key) → Id → List ℕ → List ℕ → List (Key × Key)
 publishedInitialise κ id accounts d =
-    cond (initialisesAs initializeAccount id (length accounts) d) (told initializeAccount κ accounts)
-    (cond (initialisesAs initializeAccount2 id (length accounts) d) (told initializeAccount2 κ accounts)
-    (cond (initialisesAs initializeAccount3 id (length accounts) d) (told initializeAccount3 κ accounts)
+    cond (exact initializeAccount 2 id (length accounts) d) (told initializeAccount κ accounts)
+    (cond (exact initializeAccount2 2 id (length accounts) d) (told initializeAccount2 κ accounts)
+    (cond (exact initializeAccount3 2 id (length accounts) d) (told initializeAccount3 κ accounts)
     []))
 
 -- all that it tells of mints

@@ -117,6 +117,7 @@ standing accounts (some i) = cond (ltb i (length accounts)) (some (getD accounts
 unfoldable pub role : Layout → Name → List ℕ → Option ℕ
 role l x accounts = standing accounts (place x (l .accounts))
 
+-- how many bytes the fields have
 unfoldable pub total : List (Name × ℕ) → ℕ
 total [] = 0
 total (f ∷ fs) = f .1 + total fs
