@@ -1,111 +1,183 @@
-// The printed listing of a pack: the body of the program `routes`.
+// The printed listing of names and a pack, as bytes in a lent slice.
 //
-// Standard input is the 88 names and then the pack. What is printed is tested and not proved: no contract can speak of what is written.
-use libc::STDIN_FILENO;
-use libc::STDOUT_FILENO;
+// Proved: which bytes they are, how many, and that 65,536 hold every listing. A program has only to read the input and to write them out; that is tested, since
+// no contract can speak of what is read or written.
 use route::Answer;
+ghost use mathlib.Core.Path.{_≡_};
+ghost use Prim.Native.Nat.{_+_, _*_, _≤_};
+ghost use lib.ListN.{length, take, drop};
+ghost use Rattle.listing.specs.Decimal.{decimal};
+ghost use Rattle.listing.specs.Listing.{Row, linesFrom, listing};
+ghost use Rattle.listing.specs.Listing.{field as Listing·field, named as Listing·named, refused as Listing·refused, counts as Listing·counts};
+ghost use Rattle.listing.specs.Listing.{head as Listing·head, optional as Listing·optional, position as Listing·position, line as Listing·line};
+ghost use Rattle.listing.specs.Listing.{listed as Listing·listed};
+ghost use Rattle.listing.specs.Puts.{Puts};
 
-fn word(text: &[u8]) {
-    io::write_all(STDOUT_FILENO, text);
+// The bytes of a row of table 1.
+const ROW: usize = 23;
+
+// Puts a word at a place, and answers the place behind it, as all writers here do. They ask that the place is not far, so that no sum is too large.
+fn word(out: &mut [u8], at: usize, text: &[u8]) -> usize
+    requires { ⌜ at ≤ 65536 ⌝ }
+    ensures { λ r. ⌜ Puts (length (now (text .entry))) (now (out .entry)) at (now (text .entry)) (now (out .exit)) r ⌝ }
+{
+    wire::put(out, at, text);
+    at + text.len()
 }
 
-fn number(n: u32) {
-    io::print_decimal(STDOUT_FILENO, n as u64);
+// A number in decimal.
+fn number(out: &mut [u8], at: usize, n: u32) -> usize
+    requires { ⌜ at ≤ 65536 ⌝ }
+    ensures { λ r. ⌜ Puts 10 (now (out .entry)) at (decimal n) (now (out .exit)) r ⌝ }
+{
+    let mut digits = [0u8; 20];
+    let k = io::decimal(n as u64, &mut digits);
+    word(out, at, &digits[..k])
 }
 
 // A number with a space in front.
-fn field(n: u32) {
-    word(b" ");
-    number(n);
+fn field(out: &mut [u8], at: usize, n: u32) -> usize
+    requires { ⌜ at ≤ 65535 ⌝ }
+    ensures { λ r. ⌜ Puts 11 (now (out .entry)) at (Listing·field n) (now (out .exit)) r ⌝ }
+{
+    let next = word(out, at, b" ");
+    number(out, next, n)
 }
 
-// The same for a number behind a flag: a dash where the flag is 0.
-fn maybe(flag: u8, n: u32) {
-    if flag == 0 {
-        word(b" -");
-    } else {
-        field(n);
-    }
+// The same for a word in front of it.
+fn named(out: &mut [u8], at: usize, text: &[u8], n: u32) -> usize
+    requires { ⌜ at ≤ 60000 ⌝ }
+    requires { ⌜ length (now text) ≤ 7 ⌝ }
+    ensures { λ r. ⌜ Puts (length (now (text .entry)) + 11) (now (out .entry)) at (Listing·named (now (text .entry)) n) (now (out .exit)) r ⌝ }
+{
+    let next = word(out, at, text);
+    field(out, next, n)
 }
 
-fn refused(number: u32, place: u32) {
-    word(b"refused");
-    field(number);
-    field(place);
-    word(b"\n");
+// A refusal: its number and its place.
+fn refused(out: &mut [u8], number: u32, place: u32) -> usize
+    ensures { λ r. ⌜ Puts 30 (now (out .entry)) 0 (Listing·refused number place) (now (out .exit)) r ⌝ }
+{
+    let mut at = named(out, 0, b"refused", number);
+    at = field(out, at, place);
+    word(out, at, b"\n")
+}
+
+// The rows of each table.
+fn counts(out: &mut [u8], from: usize, a: Answer) -> usize
+    requires { ⌜ from ≤ 60000 ⌝ }
+    ensures { λ r. ⌜ Puts 55 (now (out .entry)) from (Listing·counts a) (now (out .exit)) r ⌝ }
+{
+    let mut at = field(out, from, a.mints);
+    at = field(out, at, a.invocations);
+    at = field(out, at, a.transfers);
+    at = field(out, at, a.legs);
+    field(out, at, a.natives)
 }
 
 // The first line of a success: the rows of each table, the passes, the tests.
-fn head(a: Answer) {
-    word(b"ok");
-    field(a.mints);
-    field(a.invocations);
-    field(a.transfers);
-    field(a.legs);
-    field(a.natives);
-    word(b" passes");
-    field(a.passes);
-    word(b" tests");
-    field(a.tests);
-    word(b"\n");
+fn head(out: &mut [u8], a: Answer) -> usize
+    ensures { λ r. ⌜ Puts 93 (now (out .entry)) 0 (Listing·head a) (now (out .exit)) r ⌝ }
+{
+    let mut at = word(out, 0, b"ok");
+    at = counts(out, at, a);
+    at = named(out, at, b" passes", a.passes);
+    at = named(out, at, b" tests", a.tests);
+    word(out, at, b"\n")
 }
 
-// One invocation: outer, inner, height, end, bits.
-fn line(row: &[u8]) {
-    number(wire::u32_at(row, 0));
-    maybe(wire::byte(row, 4), wire::u32_at(row, 5));
-    maybe(wire::byte(row, 9), wire::u32_at(row, 10));
-    field(wire::u32_at(row, 14));
-    field(wire::byte(row, 18) as u32);
-    word(b"\n");
+// A number of a row behind its flag, with a space in front: a dash where the flag is 0.
+fn optional(out: &mut [u8], at: usize, row: &[u8], flag: usize) -> usize
+    requires { ⌜ at ≤ 60000 ⌝ }
+    requires { ⌜ flag ≤ 9 ⌝ }
+    ensures { λ r. ⌜ Puts 11 (now (out .entry)) at (Listing·optional (now (row .entry)) flag) (now (out .exit)) r ⌝ }
+{
+    if wire::byte(row, flag) == 0 {
+        return word(out, at, b" -");
+    }
+    field(out, at, wire::u32_at(row, flag + 1))
+}
+
+// Where an invocation stands: outer, inner, height.
+fn position(out: &mut [u8], from: usize, row: &[u8]) -> usize
+    requires { ⌜ from ≤ 59900 ⌝ }
+    ensures { λ r. ⌜ Puts 32 (now (out .entry)) from (Listing·position (now (row .entry))) (now (out .exit)) r ⌝ }
+{
+    let mut at = number(out, from, wire::u32_at(row, 0));
+    at = optional(out, at, row, 4);
+    optional(out, at, row, 9)
+}
+
+// An invocation: where it stands, its end, its bits.
+fn line(out: &mut [u8], from: usize, row: &[u8]) -> usize
+    requires { ⌜ from ≤ 59900 ⌝ }
+    ensures { λ r. ⌜ Puts 55 (now (out .entry)) from (Listing·line (now (row .entry))) (now (out .exit)) r ⌝ }
+{
+    let mut at = position(out, from, row);
+    at = field(out, at, wire::u32_at(row, 14));
+    at = field(out, at, wire::byte(row, 18) as u32);
+    word(out, at, b"\n")
 }
 
 // The first n rows of the table of invocations.
-fn lines(rows: &[u8], n: usize) {
-    for i in 0..n {
-        if i < rows.len() / 23 {
-            let at = i * 23;
-            line(&rows[at..at + 23]);
-        }
+fn lines(out: &mut [u8], from: usize, rows: &[u8], n: usize) -> usize
+    requires { ⌜ from ≤ 93 ⌝ }
+    requires { ⌜ n ≤ 1024 ⌝ }
+    requires { ⌜ n * Row ≤ length (now rows) ⌝ }
+    ensures { λ r. ⌜ Puts 56320 (now (out .entry)) from (linesFrom (now (rows .entry)) n 0) (now (out .exit)) r ⌝ }
+{
+    let mut at = from;
+    let mut i = 0;
+    while i < n {
+        let row = i * ROW;
+        at = line(out, at, &rows[row..row + ROW]);
+        i += 1;
     }
+    at
 }
 
-// Routes a pack into tables of 256, 1,024, 400, 250 and 500 rows, and prints what comes of it.
-fn list(names: &[u8], pack: &[u8]) {
+// All lines, by the answer and the table of invocations.
+fn listed(out: &mut [u8], a: Answer, rows: &[u8]) -> usize
+    requires { ⌜ a .invocations ≤ 1024 ⌝ }
+    requires { ⌜ a .invocations * Row ≤ length (now rows) ⌝ }
+    ensures { λ r. ⌜ Puts 65536 (now (out .entry)) 0 (Listing·listed a (now (rows .entry))) (now (out .exit)) r ⌝ }
+{
+    if a.number != 0 {
+        return refused(out, a.number, a.place);
+    }
+    let at = head(out, a);
+    lines(out, at, rows, a.invocations as usize)
+}
+
+// Where the names end and the pack begins.
+fn names_end(input: &[u8]) -> usize
+    ensures { λ r. ⌜ (r ≤ length (now (input .entry))) × (take r (now (input .entry)) ≡ take 88 (now (input .entry))) × (drop r (now (input .entry)) ≡ drop 88 (now (input .entry))) ⌝ }
+{
+    if input.len() < 88 {
+        return input.len();
+    }
+    88
+}
+
+// The listing of the names and the pack that the input is, and its length. Bytes past the end of `out` are dropped, and those behind the listing stay.
+pub fn list(input: &[u8], out: &mut [u8]) -> usize
+    ensures { λ r. ⌜ Puts 65536 (now (out .entry)) 0 (listing (now (input .entry))) (now (out .exit)) r ⌝ }
+{
+    // 256, 1,024, 400, 250 and 500 rows.
     let mut mints = [0u8; 16640];
     let mut invocations = [0u8; 23552];
     let mut transfers = [0u8; 60000];
     let mut legs = [0u8; 62500];
     let mut natives = [0u8; 54500];
+    let n = names_end(input);
     let a = route::route(
-        names,
-        pack,
+        &input[0..n],
+        &input[n..],
         &mut mints,
         &mut invocations,
         &mut transfers,
         &mut legs,
         &mut natives,
     );
-    if a.number != 0 {
-        refused(a.number, a.place);
-        return;
-    }
-    head(a);
-    lines(&invocations, a.invocations as usize);
-}
-
-// Reads one byte more than the names and the largest pack have, so that a longer input is told from the largest.
-pub fn run() {
-    let mut input = [0u8; 61529];
-    let n = io::read_full(STDIN_FILENO, &mut input);
-    if n < 88 {
-        refused(1, 0);
-        return;
-    }
-    if 61528 < n {
-        refused(2, 0);
-        return;
-    }
-    let all = &input[..n];
-    list(&all[0..88], &all[88..]);
+    listed(out, a, &invocations)
 }

@@ -1,19 +1,28 @@
-use Prim.Native.Nat.{_≤_, _-_}
+use native.Mathlib.Nat.{add-sub-cancel-left}
+use lib.ListN.{length}
+use lib.Seq.{length-sets}
+use mathlib.Core.Path.{_≡_, ap, _∙_}
+use Rattle.listing.proofs.Putting.{puts-none, puts-wider}
+use Rattle.listing.proofs.Listing.{puts-line}
+use Rattle.listing.specs.Listing.{linesFrom}
+use Rattle.listing.specs.Puts.{Puts}
+use Prim.Native.Nat.{_*_, _-_, _≤_}
 use native.Mathlib.Omega.{arith}
 use Rattle.listing.proofs.lines.Statement.{statement}
 use Rattle.listing.proofs.lines.Tie as tie
 
 abbrev Inv-loop : tie.InvT-loop
-Inv-loop rows n i₀ i = i ≤ n
+Inv-loop out₀ from rows n at₀ i₀ out at i = (i ≤ n) × Puts (i * 55) out₀ from (linesFrom rows i 0) out at
 
 abbrev μ-loop : tie.MeasureT-loop
-μ-loop rows n i₀ i = n - i
+μ-loop out₀ from rows n at₀ i₀ out at i = n - i
 
 loop-holds : tie.Need-loop-holds Inv-loop μ-loop
-loop-holds c = omega arith
+unfolding linesFrom
+loop-holds c = (omega arith, puts-none _ _)
 
-mul-at : tie.Need-mul-at Inv-loop μ-loop
-mul-at c = omega arith
+mul-row : tie.Need-mul-row Inv-loop μ-loop
+mul-row c = omega arith
 
 add-line : tie.Need-add-line Inv-loop μ-loop
 add-line c = omega arith
@@ -28,7 +37,7 @@ part-line-end : tie.Need-part-line-end Inv-loop μ-loop
 part-line-end c = omega arith
 
 line-requires : tie.Need-line-requires Inv-loop μ-loop
-line-requires c κs = tt
+line-requires c κs = omega arith
 
 add-i : tie.Need-add-i Inv-loop μ-loop
 add-i c = omega arith
@@ -37,10 +46,20 @@ loop-less : tie.Need-loop-less Inv-loop μ-loop
 loop-less c = omega arith
 
 loop-again : tie.Need-loop-again Inv-loop μ-loop
-loop-again c = omega arith
+loop-again c =
+    let l = c .before .before .before .before .before .before .loop in
+    (omega arith, puts-line (c .before .before .before .before .before .before .before .before .before .args .rows .now) (l .i) (l .inv .1) (simp add-sub-cancel-left at (c .before .before .line .ensures)))
+
+same-length : tie.Need-same-length Inv-loop μ-loop
+same-length c =
+    let a = c .before .before .before .before .args in
+    ap length (c .before .loop .inv .1 .left) ∙ length-sets (a .out .now) (a .from) (linesFrom (a .rows .now) (c .before .loop .i) 0)
 
 returns : tie.Need-returns Inv-loop μ-loop
-returns c = tt
+returns c =
+    let l = c .before .loop in
+    let e : l .i ≡ c .before .before .before .before .args .n = omega arith in
+    puts-wider 56320 (omega arith) (rw e at (l .inv .1))
 
 pub lines-spec : {M : Type 1} → statement M
 lines-spec =
@@ -49,7 +68,7 @@ lines-spec =
     Inv-loop
     μ-loop
     loop-holds
-    mul-at
+    mul-row
     add-line
     sub-line
     part-line-start
@@ -58,4 +77,5 @@ lines-spec =
     add-i
     loop-less
     loop-again
+    same-length
     returns)

@@ -1,0 +1,5 @@
+pub mod Decimal
+pub mod Putting
+pub mod Listing
+pub mod Room
+pub mod Claims

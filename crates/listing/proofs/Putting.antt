@@ -1,0 +1,26 @@
+-- One writer after another.
+-- Assumes nothing.
+use mathlib.Core.Path.{refl, sym}
+use mathlib.Core.List.{List, [], _++_}
+use Prim.Native.Nat.{ℕ, _+_, _≤_}
+use native.Mathlib.Omega.{arith}
+use lib.ListN.{length-append}
+use Rattle.wire.specs.Sets.{sets-next}
+use Rattle.listing.specs.Puts.{Puts}
+
+-- nothing is put
+pub puts-none : (out : List ℕ) (at : ℕ) → Puts 0 out at [] out at
+puts-none out at = record { left = refl; behind = omega arith; within = omega arith }
+
+-- a text, and another behind it
+pub puts-next : {m k at next last : ℕ} {out mid end a b : List ℕ} → Puts m out at a mid next → Puts k mid next b end last → Puts (m + k) out at (a ++ b) end last
+puts-next {m} {k} {at} {next} {last} {out} {mid} {end} {a} {b} p q =
+    record {
+      left = rw (q .left, p .left) (sets-next out at a b next (sym (p .behind)));
+      behind = simp length-append (omega (arith, p .behind, q .behind));
+      within = omega (arith, p .within, q .within);
+    }
+
+-- a wider bound
+pub puts-wider : {m at next : ℕ} {out text end : List ℕ} (k : ℕ) → m ≤ k → Puts m out at text end next → Puts k out at text end next
+puts-wider k h p = record { left = p .left; behind = p .behind; within = omega (arith, p .within) }

@@ -1,4 +1,0 @@
-// `routes` on the sample of examples/.
-fn main() {
-    listing::run();
-}
