@@ -7,6 +7,7 @@ pub mod chosen;
 pub mod damaged;
 pub mod generate;
 pub mod grids;
+pub mod inputs;
 pub mod library;
 pub mod listing;
 pub mod oracle;

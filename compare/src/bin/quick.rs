@@ -2,7 +2,8 @@
 //! answers. The last line says how many checks passed and failed; the exit code is 0 only if none failed.
 
 use compare::checks::{
-    cases::CASES, chosen, coverage, ids, mutants, packs, refusals::REFUSALS, sample, Outcome,
+    cases::CASES, chosen, coverage, ids, inputs, mutants, packs, refusals::REFUSALS, sample,
+    Outcome,
 };
 use compare::close;
 use std::process::ExitCode;
@@ -23,6 +24,7 @@ fn main() -> ExitCode {
         None => println!("python3 is not installed: the second decoder of the ids was not run"),
     }
     tally.add("the sample in examples/", sample::committed());
+    tally.add("the inputs in crates/routes_cases", inputs::committed());
     tally.add("the stored answers in crates/replay", chosen::committed());
     for first in (0..SEEDS).step_by(SEEDS_PER_CHECK as usize) {
         tally.add("generated packs", packs::hold(first..first + SEEDS_PER_CHECK));

@@ -5,6 +5,7 @@ pub mod chosen;
 pub mod coverage;
 pub mod damaged;
 pub mod ids;
+pub mod inputs;
 pub mod invariants;
 pub mod mutants;
 pub mod order;
