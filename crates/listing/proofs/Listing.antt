@@ -8,14 +8,15 @@ use native.Mathlib.Numerals.{add-one}
 use native.Mathlib.Omega.{arith}
 use lib.ListN.{take, drop}
 use Rattle.route.specs.declared.Answer.{Answer}
+use Rattle.route.specs.Widths.{invocationWidth}
 use Rattle.route.specs.Route.{lent, Leaves}
-use Rattle.listing.specs.Listing.{Row, line, linesFrom, listed, room, listing}
+use Rattle.listing.specs.Listing.{line, linesFrom, listed, room, listing}
 use Rattle.listing.specs.Puts.{Puts}
 use Rattle.listing.proofs.Putting.{puts-next}
 
 -- the row i of a table
 abbrev pub rowIn : List ℕ → ℕ → List ℕ
-rowIn rows i = take Row (drop (i * Row) rows)
+rowIn rows i = take invocationWidth (drop (i * invocationWidth) rows)
 
 -- one line more
 pub lines-more : (rows : List ℕ) (n i : ℕ) → linesFrom rows (suc n) i ≡ linesFrom rows n i ++ line (rowIn rows (i + n))

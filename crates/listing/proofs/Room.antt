@@ -1,51 +1,23 @@
--- The rows of table 1 that an answer counts are in the table.
+-- The rows of table 1 that an answer counts are in the table: a success lays them out there, and a refusal counts none.
 -- Assumes nothing.
-use mathlib.Core.Path.{_≡_, refl}
-use mathlib.Core.Bool.{Bool, true, false, cond}
+use mathlib.Core.Path.{_≡_, ap}
+use mathlib.Core.Logic.{by-cases}
 use mathlib.Core.List.{List}
-use mathlib.Core.Option.{Option, none, some}
-use Prim.Native.Nat.{ℕ, _/_, _≤_}
+use Prim.Native.Nat.{ℕ, _*_, _≤_}
+use native.Mathlib.Decide.{ℕ-discrete}
 use native.Mathlib.Omega.{arith}
-use lib.Dec.{ltb, eqb}
-use lib.ListN.{length}
-use borrow.Author.Tests.{ltb-false}
-use Rattle.pack.specs.Verdict.{verdict, numberOf, placeOf}
-use Rattle.route.specs.Tables.{Tables}
-use Rattle.route.specs.Route.{Lent, refused, accepted, fitted, passed, tablesIn, judged, route}
-use Rattle.listing.specs.Listing.{Row}
+use Rattle.route.specs.declared.Answer.{Answer}
+use Rattle.route.specs.Widths.{invocationWidth}
+use Rattle.route.specs.Route.{Lent, refused, route}
+use Rattle.route.proofs.Claims.{no-counts}
+use Rattle.route.proofs.Laid.{all-laid}
 
-fitted-room : (t : Tables) (l : Lent) → fitted t l .answer .invocations ≤ l .invocations / Row
-unfolding fitted accepted refused
-fitted-room t l =
-    go
-    (ltb (l .mints / 65) (t .room))
-    (ltb (l .invocations / Row) (length (t .invocations)))
-    (ltb (l .transfers / 150) (length (t .transfers)))
-    (ltb (l .legs / 250) (length (t .legs)))
-    (ltb (l .natives / 109) (length (t .natives)))
-    (ltb-false (l .invocations / Row) (length (t .invocations)))
-  where
-    go : (a b c d e : Bool) → (b ≡ false → length (t .invocations) ≤ l .invocations / Row)
-        → cond a (refused 8 0 l) (cond b (refused 8 1 l) (cond c (refused 8 2 l) (cond d (refused 8 3 l) (cond e (refused 8 4 l) (accepted t l))))) .answer .invocations
-        ≤ l .invocations / Row
-    go true b c d e h = omega arith
-    go false true c d e h = omega arith
-    go false false true d e h = omega arith
-    go false false false true e h = omega arith
-    go false false false false true h = omega arith
-    go false false false false false h = h refl
-
-passed-room : (o : Option Tables) (l : Lent) → passed o l .answer .invocations ≤ l .invocations / Row
-unfolding passed refused
-passed-room none l = omega arith
-passed-room (some t) l = fitted-room t l
-
-pub rows-fit : (names p : List ℕ) (l : Lent) → route names p l .answer .invocations ≤ l .invocations / Row
-unfolding route judged refused
-rows-fit names p l = go (eqb (length names) 88) (eqb (numberOf (verdict p)) 0)
-  where
-    go : (a b : Bool)
-        → cond a (cond b (passed (tablesIn names p) l) (refused (numberOf (verdict p)) (placeOf (verdict p)) l)) (refused 1 0 l) .answer .invocations ≤ l .invocations / Row
-    go true true = passed-room (tablesIn names p) l
-    go true false = omega arith
-    go false b = omega arith
+pub rows-fit : (names p : List ℕ) (l : Lent) → route names p l .answer .invocations * invocationWidth ≤ l .invocations
+unfolding refused
+rows-fit names p l =
+    by-cases
+    (ℕ-discrete (route names p l .answer .number) 0)
+    (λ e. all-laid names p l e .invocations .room)
+    (λ n.
+    let e : route names p l .answer .invocations ≡ 0 = ap (λ (a : Answer). a .invocations) (no-counts names p l n) in
+    omega arith)

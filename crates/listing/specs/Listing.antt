@@ -7,12 +7,9 @@ use lib.Dec.{eqb}
 use lib.ListN.{getD, take, drop}
 use Rattle.wire.specs.Le.{le}
 use Rattle.route.specs.declared.Answer.{Answer}
+use Rattle.route.specs.Widths.{mintWidth, invocationWidth, transferWidth, legWidth, actionWidth}
 use Rattle.route.specs.Route.{Lent, route}
 use Rattle.listing.specs.Decimal.{decimal}
-
--- the bytes of a row of table 1
-abbrev pub Row : ℕ
-Row = 23
 
 -- the end of a line
 abbrev pub newline : List ℕ
@@ -55,7 +52,7 @@ line row = position row ++ field (le 4 row 14) ++ field (getD row 18 0) ++ newli
 -- the lines of n rows from row i on
 unfoldable pub linesFrom : List ℕ → ℕ → ℕ → List ℕ
 linesFrom rows zero i = []
-linesFrom rows (suc n) i = line (take Row (drop (i * Row) rows)) ++ linesFrom rows n (suc i)
+linesFrom rows (suc n) i = line (take invocationWidth (drop (i * invocationWidth) rows)) ++ linesFrom rows n (suc i)
 
 -- what is printed of an answer and the rows of table 1
 unfoldable pub listed : Answer → List ℕ → List ℕ
@@ -63,7 +60,14 @@ listed a rows = cond (eqb (a .number) 0) (head a ++ linesFrom rows (a .invocatio
 
 -- the lent tables: room for 256, 1,024, 400, 250 and 500 rows
 abbrev pub room : Lent
-room = record { mints = 256 * 65; invocations = 1024 * Row; transfers = 400 * 150; legs = 250 * 250; natives = 500 * 109 }
+room =
+    record {
+      mints = 256 * mintWidth;
+      invocations = 1024 * invocationWidth;
+      transfers = 400 * transferWidth;
+      legs = 250 * legWidth;
+      natives = 500 * actionWidth;
+    }
 
 -- the listing of an input: 88 bytes of names, and the rest is the pack
 unfoldable pub listing : List ℕ → List ℕ

@@ -3,18 +3,17 @@
 // Proved: which bytes they are, how many, and that 65,536 hold every listing. A program has only to read the input and to write them out; that is tested, since
 // no contract can speak of what is read or written.
 use route::Answer;
+use route::width;
 ghost use mathlib.Core.Path.{_≡_};
 ghost use Prim.Native.Nat.{_+_, _*_, _≤_};
 ghost use lib.ListN.{length, take, drop};
+ghost use Rattle.route.specs.Widths.{invocationWidth};
 ghost use Rattle.listing.specs.Decimal.{decimal};
-ghost use Rattle.listing.specs.Listing.{Row, linesFrom, listing};
+ghost use Rattle.listing.specs.Listing.{linesFrom, listing};
 ghost use Rattle.listing.specs.Listing.{field as Listing·field, named as Listing·named, refused as Listing·refused, counts as Listing·counts};
 ghost use Rattle.listing.specs.Listing.{head as Listing·head, optional as Listing·optional, position as Listing·position, line as Listing·line};
 ghost use Rattle.listing.specs.Listing.{listed as Listing·listed};
 ghost use Rattle.listing.specs.Puts.{Puts};
-
-// The bytes of a row of table 1.
-const ROW: usize = 23;
 
 // Puts a word at a place, and answers the place behind it, as all writers here do. They ask that the place is not far, so that no sum is too large.
 fn word(out: &mut [u8], at: usize, text: &[u8]) -> usize
@@ -123,14 +122,14 @@ fn line(out: &mut [u8], from: usize, row: &[u8]) -> usize
 fn lines(out: &mut [u8], from: usize, rows: &[u8], n: usize) -> usize
     requires { ⌜ from ≤ 93 ⌝ }
     requires { ⌜ n ≤ 1024 ⌝ }
-    requires { ⌜ n * Row ≤ length (now rows) ⌝ }
+    requires { ⌜ n * invocationWidth ≤ length (now rows) ⌝ }
     ensures { λ r. ⌜ Puts 56320 (now (out .entry)) from (linesFrom (now (rows .entry)) n 0) (now (out .exit)) r ⌝ }
 {
     let mut at = from;
     let mut i = 0;
     while i < n {
-        let row = i * ROW;
-        at = line(out, at, &rows[row..row + ROW]);
+        let row = i * width::INVOCATIONS;
+        at = line(out, at, &rows[row..row + width::INVOCATIONS]);
         i += 1;
     }
     at
@@ -139,7 +138,7 @@ fn lines(out: &mut [u8], from: usize, rows: &[u8], n: usize) -> usize
 // All lines, by the answer and the table of invocations.
 fn listed(out: &mut [u8], a: Answer, rows: &[u8]) -> usize
     requires { ⌜ a .invocations ≤ 1024 ⌝ }
-    requires { ⌜ a .invocations * Row ≤ length (now rows) ⌝ }
+    requires { ⌜ a .invocations * invocationWidth ≤ length (now rows) ⌝ }
     ensures { λ r. ⌜ Puts 65536 (now (out .entry)) 0 (Listing·listed a (now (rows .entry))) (now (out .exit)) r ⌝ }
 {
     if a.number != 0 {
@@ -163,12 +162,11 @@ fn names_end(input: &[u8]) -> usize
 pub fn list(input: &[u8], out: &mut [u8]) -> usize
     ensures { λ r. ⌜ Puts 65536 (now (out .entry)) 0 (listing (now (input .entry))) (now (out .exit)) r ⌝ }
 {
-    // 256, 1,024, 400, 250 and 500 rows.
-    let mut mints = [0u8; 16640];
-    let mut invocations = [0u8; 23552];
-    let mut transfers = [0u8; 60000];
-    let mut legs = [0u8; 62500];
-    let mut natives = [0u8; 54500];
+    let mut mints = [0u8; 256 * width::MINTS];
+    let mut invocations = [0u8; 1024 * width::INVOCATIONS];
+    let mut transfers = [0u8; 400 * width::TRANSFERS];
+    let mut legs = [0u8; 250 * width::LEGS];
+    let mut natives = [0u8; 500 * width::NATIVES];
     let n = names_end(input);
     let a = route::route(
         &input[0..n],

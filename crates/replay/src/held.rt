@@ -1,5 +1,6 @@
 // One stored answer, held against the call.
 use route::Answer;
+use route::width;
 ghost use Prim.Native.Nat.{_≤_};
 
 // What an answer differs in from the stored one.
@@ -118,11 +119,11 @@ fn compare(
     if !numbers(a, stored) {
         return Found::Numbers;
     }
-    let n0 = a.mints as usize * 65;
-    let n1 = a.invocations as usize * 23;
-    let n2 = a.transfers as usize * 150;
-    let n3 = a.legs as usize * 250;
-    let n4 = a.natives as usize * 109;
+    let n0 = a.mints as usize * width::MINTS;
+    let n1 = a.invocations as usize * width::INVOCATIONS;
+    let n2 = a.transfers as usize * width::TRANSFERS;
+    let n3 = a.legs as usize * width::LEGS;
+    let n4 = a.natives as usize * width::NATIVES;
     if !holds(mints, stored, 36, n0) {
         return Found::Mints;
     }

@@ -1,7 +1,8 @@
 use native.Mathlib.Nat.{sub-zero}
+use Rattle.route.specs.Widths.{invocationWidth}
 use Rattle.listing.proofs.Room.{rows-fit}
 use Rattle.listing.proofs.Listing.{listing-by}
-use Prim.Native.Nat.{_-_, _≤_}
+use Prim.Native.Nat.{_*_, _-_, _≤_}
 use lib.ListN.{length, drop, length-drop}
 use lib.Seq.{take-all}
 use mathlib.Core.Path.{refl, _∙_}
@@ -55,8 +56,8 @@ slice-aggregate-listed c = search needs
 listed-requires : tie.Need-listed-requires
 listed-requires c κs =
     let r = c .before .before .before .before .before .before .before .route in
-    let f : r .result .invocations ≤ 1024 = rw (r .ensures .answer) (rows-fit _ _ _) in
-    (f, omega (arith, r .kept .1 .1 .1 .0))
+    let f : r .result .invocations * invocationWidth ≤ 1024 * invocationWidth = rw (r .ensures .answer) (rows-fit _ _ _) in
+    (omega arith, omega (arith, r .kept .1 .1 .1 .0))
 
 same-length : tie.Need-same-length
 same-length c = search needs
