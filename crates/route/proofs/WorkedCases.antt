@@ -74,6 +74,7 @@ found c = (called c .answer .number, shown (called c) (c .1))
 abbrev pub expected : View × Shown → ℕ × Shown
 expected c = (due (c .1), c .1)
 
+-- in three parts: one computation of all would pass the limit of steps
 rows-right : map found rowCases ≡ map expected rowCases
 unfolding key row first second names room rowCases called packOf flatMap le leBytes same zeroKey ids ofNumber rowFrom which programAt instructionAt mark marked startOf ordered hasSection sectionOf rows rowsFill keysFill itemEnd outersFrom outersFill heightAt heightGood innersEnd innersGood innersFrom groupEnd groupGood groupAt groupsFrom groupsFill keysIn balancesIn outerIn groupsIn poolsIn viewOf numbered inside flattenFrom flatten verdict isToken isToken2022 initialises plainTransfer checkedTransfer feeTransfer bothEnds records plain feeOf plainly checked transfer rowOf isSpl starts isSystem funds syncs closes asked allBelow wrapped counted nativeAction fieldsOf is isFlag clmmLeg clmm orcaV1 orcaV2 orca cpmm modeOf launchLabLeg launchLab isV2 isV3 isBuy isExact isWrapped pumpFunLeg pumpFunBy pumpFun contains tagSize slices slicesFit layout dlmm trackVolume pumpSwap pumpSwapLeg ammV4 valued byProgram swap endBytes keyBytes legRow ltKey gather lookup put note noteAll recorded fill spread step pass passCounted run runFrom infer insert sort clean final absent differ opposes opposed markOf mintTable finish mints mintIn balanceSays says moves evidenceOf transfersOf inferred higher inners descendant firstNot anyIn countIn sumIn atop testsAt tab place within insideOf rowsOf placed flagged invocationRow transferOf transferRows legOf legRows actionOf actionRows programBits item ownOf flagsOf legNumber invocationAt tablesWith tablesIf tables refused accepted fitted passed judged route
 rows-right = refl

@@ -1,7 +1,7 @@
--- One leg for each form of each protocol, with the least accounts and the least data that make it: account i is key i, and no two numbers of the data share a byte.
+-- One leg for each form of each protocol, with the least accounts and the least data that make it: account i is key i, and the two numbers of the data share no byte.
 -- Assumes nothing.
 use Prim.Native.Nat.{ℕ, _-_}
-use mathlib.Core.List.{List, [], _∷_, _++_, flatMap}
+use mathlib.Core.List.{List, [], _∷_, _++_, map}
 use lib.ListN.{length, take}
 use Rattle.wire.specs.Zeros.{zeros}
 use Rattle.ids.specs.Keys.{Key}
@@ -10,8 +10,9 @@ use Rattle.ids.specs.Which.{numberOf}
 use Rattle.ids.specs.declared.Id.{Id}
 use Rattle.ids.specs.declared.Id.the-variants.{PumpFun, LaunchLab, PumpSwap, Clmm, Cpmm, AmmV4, Orca, Dlmm}
 use Rattle.pack.specs.View.{View}
-use Rattle.route.specs.MarkedCases.{key, one}
-use Rattle.route.specs.WorkedForm.{Shown, legs-are, row, first, second, swapBaseIn, swapBaseOut, buy}
+use Rattle.subtrees.specs.Subtrees.{tab}
+use Rattle.route.specs.MarkedCases.{key, keysFor, saying}
+use Rattle.route.specs.WorkedForm.{Shown, legs-are, row, first, second, swapBaseIn, swapBaseOut, buy, calls}
 
 -- the first eight bytes of each form, as the original's `swap` and `discriminators` list them
 abbrev pub swap : List ℕ
@@ -105,13 +106,15 @@ directed exact direction = limited exact ++ (direction ∷ [])
 abbrev pub Form : Type 0
 Form = Id × ℕ × List ℕ × ℕ × List (ℕ × List ℕ)
 
--- its leg; none with an account less; none with a byte less
-abbrev pub bounds : Form → List (View × Shown)
-bounds f =
-    (one (f .0) (f .1) (f .2), legs-are (legRow (f .0) (f .3) (f .4) ∷ []))
-    ∷ (one (f .0) (f .1 - 1) (f .2), legs-are [])
-    ∷ (one (f .0) (f .1) (take (length (f .2) - 1) (f .2)), legs-are [])
-    ∷ []
+-- the form with an account less, with a byte less, and whole: the last alone, invocation 2, is a leg
+abbrev pub bounded : Form → View × Shown
+bounded f =
+    let n = f .1 in
+    let d = f .2 in (
+      saying (keysFor (f .0) n) []
+          (calls n (tab (λ i. i) 0 (n - 1)) d ∷ calls n (tab (λ i. i) 0 n) (take (length d - 1) d) ∷ calls n (tab (λ i. i) 0 n) d ∷ []) [],
+      legs-are (legRow (f .0) (f .3) ((0, 2 ∷ []) ∷ f .4) ∷ []),
+    )
 
 unfoldable pub forms : List Form
 forms =
@@ -157,6 +160,5 @@ forms =
     ∷ (AmmV4, 17, 11 ∷ numbers, 4, parties 1 16 14 15 ++ exchanged)
     ∷ []
 
--- three cases for each
 unfoldable pub legCases : List (View × Shown)
-legCases = flatMap bounds forms
+legCases = map bounded forms
