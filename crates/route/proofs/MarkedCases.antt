@@ -51,7 +51,7 @@ use Rattle.route.specs.Actions.{actionOf, actionRows}
 use Rattle.route.specs.Tables.{invocationAt, tablesWith, tablesIf, tables}
 use Rattle.route.specs.Route.{Lent, Routed, accepted, fitted, passed, judged, route}
 use Rattle.route.specs.MarkedCases.{Outcome, seen, key, cases}
-use Rattle.route.proofs.Packing.{packOf}
+use Rattle.route.proofs.Packing.{packOf, ReadBack}
 
 -- the discriminators that the names have in the full repository; no case asks for the two configs
 unfoldable pub names : List ℕ
@@ -60,10 +60,6 @@ names = 143 ∷ 190 ∷ 90 ∷ 218 ∷ 196 ∷ 30 ∷ 51 ∷ 222 ∷ 55 ∷ 217 
 -- tables with room for every case
 abbrev pub room : Lent
 room = record { mints = 3 * mintWidth; invocations = 5 * invocationWidth; transfers = 2 * transferWidth; legs = legWidth; natives = 0 }
-
--- the pack of each case, read back, says what the case says
-abbrev pub ReadBack : List (View × Outcome) → Type 0
-ReadBack cs = map (λ c. viewOf (packOf (c .0))) cs ≡ map (λ c. c .0) cs
 
 -- what the call leaves of a case's pack
 unfoldable pub called : View × Outcome → Routed

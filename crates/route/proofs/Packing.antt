@@ -1,14 +1,15 @@
 -- The pack that says what a View says: how cases are handed to the public call.
 -- Assumes nothing.
 use Prim.Native.Nat.{ℕ}
-use mathlib.Core.List.{List, _∷_, _++_, flatMap}
+use mathlib.Core.Path.{_≡_}
+use mathlib.Core.List.{List, _∷_, _++_, map, flatMap}
 use mathlib.Core.Option.{Option}
 use lib.ListN.{length}
 use Rattle.wire.specs.Le.{leBytes}
 use Rattle.ids.specs.Keys.{Key}
 use Rattle.pack.specs.Invocation.{Instruction}
 use Rattle.pack.specs.Group.{Group}
-use Rattle.pack.specs.View.{View}
+use Rattle.pack.specs.View.{View, viewOf}
 use Rattle.pack.proofs.Cases.{packed}
 use Rattle.route.specs.Row.{flagged}
 
@@ -38,3 +39,7 @@ packOf v =
     (flatMap instructionItem (v .outer))
     (flatMap groupItem (v .groups))
     (flatMap (λ k. k) (v .pools))
+
+-- the packs of cases, read back, say what the cases say
+abbrev pub ReadBack : {B : Type 0} → List (View × B) → Type 0
+ReadBack {B} cs = map (λ (c : View × B). viewOf (packOf (c .0))) cs ≡ map (λ (c : View × B). c .0) cs

@@ -15,7 +15,6 @@ use Rattle.pack.specs.View.{View, keysIn, balancesIn, outerIn, groupsIn, poolsI
 use Rattle.pack.specs.Flatten.{numbered, inside, flattenFrom, flatten}
 use Rattle.pack.specs.Verdict.{verdict}
 use Rattle.token.specs.Programs.{isToken, isSpl, isToken2022}
-use Rattle.token.specs.Published.{starts}
 use Rattle.token.specs.Tokens.{initialises, plainTransfer, checkedTransfer, feeTransfer}
 use Rattle.token.specs.Records.{bothEnds, records, plain}
 use Rattle.token.specs.Transfers.{feeOf, plainly, checked, transfer}
@@ -61,7 +60,7 @@ use Rattle.route.specs.MarkedCases.{key}
 use Rattle.route.specs.WorkedForm.{Shown, shown, due, row, first, second, names, room}
 use Rattle.route.specs.WorkedLegs.{forms, legCases}
 use Rattle.route.specs.WorkedCases.{rowCases, keyCases, worked}
-use Rattle.route.proofs.Packing.{packOf}
+use Rattle.route.proofs.Packing.{packOf, ReadBack}
 
 -- what the call leaves of a case's pack
 unfoldable pub called : View × Shown → Routed
@@ -76,15 +75,15 @@ expected c = (due (c .1), c .1)
 
 -- in three parts: one computation of all would pass the limit of steps
 rows-right : map found rowCases ≡ map expected rowCases
-unfolding key row first second names room rowCases called packOf flatMap le leBytes same zeroKey ids ofNumber rowFrom which programAt instructionAt mark marked startOf ordered hasSection sectionOf rows rowsFill keysFill itemEnd outersFrom outersFill heightAt heightGood innersEnd innersGood innersFrom groupEnd groupGood groupAt groupsFrom groupsFill keysIn balancesIn outerIn groupsIn poolsIn viewOf numbered inside flattenFrom flatten verdict isToken isToken2022 initialises plainTransfer checkedTransfer feeTransfer bothEnds records plain feeOf plainly checked transfer rowOf isSpl starts isSystem funds syncs closes asked allBelow wrapped counted nativeAction fieldsOf is isFlag clmmLeg clmm orcaV1 orcaV2 orca cpmm modeOf launchLabLeg launchLab isV2 isV3 isBuy isExact isWrapped pumpFunLeg pumpFunBy pumpFun contains tagSize slices slicesFit layout dlmm trackVolume pumpSwap pumpSwapLeg ammV4 valued byProgram swap endBytes keyBytes legRow ltKey gather lookup put note noteAll recorded fill spread step pass passCounted run runFrom infer insert sort clean final absent differ opposes opposed markOf mintTable finish mints mintIn balanceSays says moves evidenceOf transfersOf inferred higher inners descendant firstNot anyIn countIn sumIn atop testsAt tab place within insideOf rowsOf placed flagged invocationRow transferOf transferRows legOf legRows actionOf actionRows programBits item ownOf flagsOf legNumber invocationAt tablesWith tablesIf tables refused accepted fitted passed judged route
+unfolding key row first second names room rowCases called packOf flatMap le leBytes same zeroKey ids ofNumber rowFrom which programAt instructionAt mark marked startOf ordered hasSection sectionOf rows rowsFill keysFill itemEnd outersFrom outersFill heightAt heightGood innersEnd innersGood innersFrom groupEnd groupGood groupAt groupsFrom groupsFill keysIn balancesIn outerIn groupsIn poolsIn viewOf numbered inside flattenFrom flatten verdict isToken isToken2022 initialises plainTransfer checkedTransfer feeTransfer bothEnds records plain feeOf plainly checked transfer rowOf isSpl isSystem funds syncs closes asked allBelow wrapped counted nativeAction fieldsOf is isFlag clmmLeg clmm orcaV1 orcaV2 orca cpmm modeOf launchLabLeg launchLab isV2 isV3 isBuy isExact isWrapped pumpFunLeg pumpFunBy pumpFun contains tagSize slices slicesFit layout dlmm trackVolume pumpSwap pumpSwapLeg ammV4 valued byProgram swap endBytes keyBytes legRow ltKey gather lookup put note noteAll recorded fill spread step pass passCounted run runFrom infer insert sort clean final absent differ opposes opposed markOf mintTable finish mints mintIn balanceSays says moves evidenceOf transfersOf inferred higher inners descendant firstNot anyIn countIn sumIn atop testsAt tab place within insideOf rowsOf placed flagged invocationRow transferOf transferRows legOf legRows actionOf actionRows programBits item ownOf flagsOf legNumber invocationAt tablesWith tablesIf tables refused accepted fitted passed judged route
 rows-right = refl
 
 keys-right : map found keyCases ≡ map expected keyCases
-unfolding key row first second names room keyCases called packOf flatMap le leBytes same zeroKey ids ofNumber rowFrom which programAt instructionAt mark marked startOf ordered hasSection sectionOf rows rowsFill keysFill itemEnd outersFrom outersFill heightAt heightGood innersEnd innersGood innersFrom groupEnd groupGood groupAt groupsFrom groupsFill keysIn balancesIn outerIn groupsIn poolsIn viewOf numbered inside flattenFrom flatten verdict isToken isToken2022 initialises plainTransfer checkedTransfer feeTransfer bothEnds records plain feeOf plainly checked transfer rowOf isSpl starts isSystem funds syncs closes asked allBelow wrapped counted nativeAction fieldsOf is isFlag clmmLeg clmm orcaV1 orcaV2 orca cpmm modeOf launchLabLeg launchLab isV2 isV3 isBuy isExact isWrapped pumpFunLeg pumpFunBy pumpFun contains tagSize slices slicesFit layout dlmm trackVolume pumpSwap pumpSwapLeg ammV4 valued byProgram swap endBytes keyBytes legRow ltKey gather lookup put note noteAll recorded fill spread step pass passCounted run runFrom infer insert sort clean final absent differ opposes opposed markOf mintTable finish mints mintIn balanceSays says moves evidenceOf transfersOf inferred higher inners descendant firstNot anyIn countIn sumIn atop testsAt tab place within insideOf rowsOf placed flagged invocationRow transferOf transferRows legOf legRows actionOf actionRows programBits item ownOf flagsOf legNumber invocationAt tablesWith tablesIf tables refused accepted fitted passed judged route
+unfolding key row first second names room keyCases called packOf flatMap le leBytes same zeroKey ids ofNumber rowFrom which programAt instructionAt mark marked startOf ordered hasSection sectionOf rows rowsFill keysFill itemEnd outersFrom outersFill heightAt heightGood innersEnd innersGood innersFrom groupEnd groupGood groupAt groupsFrom groupsFill keysIn balancesIn outerIn groupsIn poolsIn viewOf numbered inside flattenFrom flatten verdict isToken isToken2022 initialises plainTransfer checkedTransfer feeTransfer bothEnds records plain feeOf plainly checked transfer rowOf isSpl isSystem funds syncs closes asked allBelow wrapped counted nativeAction fieldsOf is isFlag clmmLeg clmm orcaV1 orcaV2 orca cpmm modeOf launchLabLeg launchLab isV2 isV3 isBuy isExact isWrapped pumpFunLeg pumpFunBy pumpFun contains tagSize slices slicesFit layout dlmm trackVolume pumpSwap pumpSwapLeg ammV4 valued byProgram swap endBytes keyBytes legRow ltKey gather lookup put note noteAll recorded fill spread step pass passCounted run runFrom infer insert sort clean final absent differ opposes opposed markOf mintTable finish mints mintIn balanceSays says moves evidenceOf transfersOf inferred higher inners descendant firstNot anyIn countIn sumIn atop testsAt tab place within insideOf rowsOf placed flagged invocationRow transferOf transferRows legOf legRows actionOf actionRows programBits item ownOf flagsOf legNumber invocationAt tablesWith tablesIf tables refused accepted fitted passed judged route
 keys-right = refl
 
 legs-right : map found legCases ≡ map expected legCases
-unfolding key row first second names room forms legCases called packOf flatMap le leBytes same zeroKey ids ofNumber rowFrom which programAt instructionAt mark marked startOf ordered hasSection sectionOf rows rowsFill keysFill itemEnd outersFrom outersFill heightAt heightGood innersEnd innersGood innersFrom groupEnd groupGood groupAt groupsFrom groupsFill keysIn balancesIn outerIn groupsIn poolsIn viewOf numbered inside flattenFrom flatten verdict isToken isToken2022 initialises plainTransfer checkedTransfer feeTransfer bothEnds records plain feeOf plainly checked transfer rowOf isSpl starts isSystem funds syncs closes asked allBelow wrapped counted nativeAction fieldsOf is isFlag clmmLeg clmm orcaV1 orcaV2 orca cpmm modeOf launchLabLeg launchLab isV2 isV3 isBuy isExact isWrapped pumpFunLeg pumpFunBy pumpFun contains tagSize slices slicesFit layout dlmm trackVolume pumpSwap pumpSwapLeg ammV4 valued byProgram swap endBytes keyBytes legRow ltKey gather lookup put note noteAll recorded fill spread step pass passCounted run runFrom infer insert sort clean final absent differ opposes opposed markOf mintTable finish mints mintIn balanceSays says moves evidenceOf transfersOf inferred higher inners descendant firstNot anyIn countIn sumIn atop testsAt tab place within insideOf rowsOf placed flagged invocationRow transferOf transferRows legOf legRows actionOf actionRows programBits item ownOf flagsOf legNumber invocationAt tablesWith tablesIf tables refused accepted fitted passed judged route
+unfolding key row first second names room forms legCases called packOf flatMap le leBytes same zeroKey ids ofNumber rowFrom which programAt instructionAt mark marked startOf ordered hasSection sectionOf rows rowsFill keysFill itemEnd outersFrom outersFill heightAt heightGood innersEnd innersGood innersFrom groupEnd groupGood groupAt groupsFrom groupsFill keysIn balancesIn outerIn groupsIn poolsIn viewOf numbered inside flattenFrom flatten verdict isToken isToken2022 initialises plainTransfer checkedTransfer feeTransfer bothEnds records plain feeOf plainly checked transfer rowOf isSpl isSystem funds syncs closes asked allBelow wrapped counted nativeAction fieldsOf is isFlag clmmLeg clmm orcaV1 orcaV2 orca cpmm modeOf launchLabLeg launchLab isV2 isV3 isBuy isExact isWrapped pumpFunLeg pumpFunBy pumpFun contains tagSize slices slicesFit layout dlmm trackVolume pumpSwap pumpSwapLeg ammV4 valued byProgram swap endBytes keyBytes legRow ltKey gather lookup put note noteAll recorded fill spread step pass passCounted run runFrom infer insert sort clean final absent differ opposes opposed markOf mintTable finish mints mintIn balanceSays says moves evidenceOf transfersOf inferred higher inners descendant firstNot anyIn countIn sumIn atop testsAt tab place within insideOf rowsOf placed flagged invocationRow transferOf transferRows legOf legRows actionOf actionRows programBits item ownOf flagsOf legNumber invocationAt tablesWith tablesIf tables refused accepted fitted passed judged route
 legs-right = refl
 
 -- two lists of cases one after the other
@@ -95,3 +94,8 @@ joined a b x y = rw (map-append found a b, map-append expected a b, x, y)
 pub worked-cases : map found worked ≡ map expected worked
 unfolding worked
 worked-cases = joined (rowCases ++ keyCases) legCases (joined rowCases keyCases rows-right keys-right) legs-right
+
+-- and none of this comes of a garbled pack
+pub worked-packs : ReadBack rowCases × ReadBack keyCases × ReadBack legCases
+unfolding key first second names rowCases keyCases forms legCases packOf flatMap flagged tab ids le leBytes mark startOf hasSection sectionOf instructionAt rows itemEnd outersFrom heightAt innersEnd innersFrom groupEnd groupAt groupsFrom keysIn balancesIn outerIn groupsIn poolsIn viewOf
+worked-packs = (refl, refl, refl)
