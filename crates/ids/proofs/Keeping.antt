@@ -12,7 +12,8 @@ use lib.Dec.{ltb}
 use lib.ListN.{length, getD, set, replicate, getD-replicate, length-set, length-replicate}
 use lib.Seq.{getD-set-same, getD-set-other, ext-getD}
 use Rattle.ids.specs.Keys.{keyCount}
-use Rattle.ids.specs.Cases.{numberAt, casesOf, cases-length, cases-at, number-past}
+use Rattle.ids.specs.Cases.{numberAt, casesOf}
+use Rattle.ids.proofs.Numbers.{cases-length, cases-at, number-past}
 
 -- the first i numbers are those of the keys, the others that of a program which is not resolved
 pub record Kept (ks cases : List ℕ) (i : ℕ) : Type 0 where

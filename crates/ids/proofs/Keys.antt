@@ -9,7 +9,7 @@ use native.Mathlib.Omega.{arith}
 use lib.Dec.{ltb, eqb}
 use lib.ListN.{length, getD, take, drop, length-take, length-drop}
 use borrow.Author.Tests.{ltb-true, eqb-true}
-use Rattle.wire.specs.Below.{and-left}
+use Rattle.wire.proofs.Below.{and-left}
 use Rattle.ids.specs.Keys.{Key, zeroKey, keyCount, keyOf, account}
 use Rattle.ids.specs.Mints.{isMint, mintOf, mintField}
 

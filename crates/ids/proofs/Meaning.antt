@@ -6,7 +6,8 @@ use Prim.Native.Nat.{ℕ, _<_}
 use native.Mathlib.Omega.{arith}
 use borrow.Author.Tests.{eqb-true}
 use lib.Dec.{eqb}
-use Rattle.wire.specs.Below.{allBelow, below-at}
+use Rattle.wire.specs.Below.{allBelow}
+use Rattle.wire.proofs.Below.{below-at}
 use Rattle.ids.specs.Keys.{Key, zeroKey}
 use Rattle.ids.specs.Ids.{idAt}
 use Rattle.ids.specs.Which.{numberOf, ofNumber, rowFrom, which}

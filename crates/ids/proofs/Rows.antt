@@ -10,7 +10,8 @@ use native.Mathlib.Decide.{ℕ-discrete}
 use native.Mathlib.Omega.{arith}
 use lib.Dec.{eqb}
 use lib.ListN.{getD}
-use Rattle.wire.specs.Same.{same, same-eq, same-ne}
+use Rattle.wire.specs.Same.{same}
+use Rattle.wire.proofs.Same.{same-eq, same-ne}
 use Rattle.ids.specs.Keys.{Key, zeroKey}
 use Rattle.ids.specs.Ids.{idAt}
 use Rattle.ids.specs.Which.{rowFrom, rowBy}

@@ -8,7 +8,8 @@ use native.Mathlib.Omega.{arith}
 use borrow.Author.Tests.{eqb-true}
 use lib.Dec.{eqb}
 use lib.ListN.{length, getD}
-use Rattle.wire.specs.Below.{allBelow, below-at}
+use Rattle.wire.specs.Below.{allBelow}
+use Rattle.wire.proofs.Below.{below-at}
 use Rattle.ids.specs.Keys.{Key, zeroKey}
 use Rattle.ids.specs.Ids.{ids, idAt}
 use Rattle.ids.specs.Which.{rowBy}

@@ -9,7 +9,8 @@ use native.Mathlib.Decide.{ℕ-discrete, decLt}
 use native.Mathlib.Omega.{arith}
 use lib.ListN.{length, getD, drop, length-set, length-take, length-drop, length-replicate}
 use lib.Seq.{ext-getD, getD-take, getD-drop}
-use Rattle.wire.specs.Zeros.{zeros, zeros-at}
+use Rattle.wire.specs.Zeros.{zeros}
+use Rattle.wire.proofs.Zeros.{zeros-at}
 use Rattle.ids.specs.Keys.{Key, zeroKey}
 use Rattle.evidence.specs.Table.{lookup}
 use Rattle.mints.specs.Bytes.{mintWidth}

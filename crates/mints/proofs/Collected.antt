@@ -18,7 +18,7 @@ use Rattle.evidence.specs.Table.{Row, Table}
 use Rattle.evidence.specs.Evidence.{noteAll}
 use Rattle.evidence.specs.Passes.{Transfers}
 use Rattle.evidence.specs.Gather.{gather}
-use Rattle.evidence.specs.Loops.{gather-take, noteAll-append}
+use Rattle.evidence.proofs.Loops.{gather-take, noteAll-append}
 use Rattle.mints.specs.Note.{Noted}
 use Rattle.mints.specs.Gather.{rowOf, isPlain, tokenAt, Gathered, gatherAt, gatherTo}
 use Rattle.mints.specs.Inference.{says, moves}

@@ -8,7 +8,7 @@ use native.Mathlib.Decide.{decLt}
 use native.Mathlib.Omega.{arith}
 use lib.ListN.{length, getD, set, take, drop, length-take, length-drop}
 use lib.Seq.{sets, getD-drop}
-use Rattle.wire.specs.Sets.{sets-more, sets-before, sets-after}
+use Rattle.wire.proofs.Sets.{sets-more, sets-before, sets-after}
 use Rattle.mints.specs.Bytes.{mintWidth}
 
 module _ (t : List ℕ) (a b j : ℕ) (n : a ≢ b) (h : a * mintWidth + mintWidth ≤ length t) (k : j < 32) where

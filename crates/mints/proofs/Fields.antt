@@ -8,7 +8,7 @@ use native.Mathlib.Decide.{decLt}
 use native.Mathlib.Omega.{arith}
 use lib.ListN.{length, take, drop, length-take, length-drop, length-set}
 use lib.Seq.{sets, length-sets, ext-getD, getD-take, getD-drop, getD-set-same, getD-set-other}
-use Rattle.wire.specs.Sets.{sets-before, sets-after, sets-in}
+use Rattle.wire.proofs.Sets.{sets-before, sets-after, sets-in}
 use Rattle.ids.specs.Keys.{Key}
 use Rattle.mints.specs.Bytes.{mintWidth}
 use Rattle.mints.specs.Cells.{accountAt, mintAt, stateAt, withMint, withState}

@@ -9,11 +9,12 @@ use native.Mathlib.Numerals.{add-one}
 use native.Mathlib.Omega.{arith}
 use lib.ListN.{length, getD, set, take}
 use lib.Seq.{sets, take-all}
-use Rattle.wire.specs.Sets.{sets-more}
+use Rattle.wire.proofs.Sets.{sets-more}
 use Rattle.ids.specs.declared.Id.{Id}
 use Rattle.ids.specs.Keys.{Key, keyCount, keyOf}
 use Rattle.ids.specs.Which.{ofNumber, programAt}
-use Rattle.ids.specs.Cases.{numberAt, casesOf, numberIn, number-program, number-in}
+use Rattle.ids.specs.Cases.{numberAt, casesOf, numberIn}
+use Rattle.ids.proofs.Numbers.{number-program, number-in}
 use Rattle.pack.specs.Invocation.{instructionAt}
 use Rattle.token.specs.Programs.{isToken}
 use Rattle.token.specs.Tokens.{tokenOf}
@@ -21,7 +22,8 @@ use Rattle.token.specs.declared.Token.{Token}
 use Rattle.token.specs.declared.Token.the-variants.{Other, Initialise, Plain, Checked, WithFee}
 use Rattle.mints.specs.Note.{Noted}
 use Rattle.mints.specs.Gather.{rowOf, noteAccount, observed, isPlain, tokenAt, Gathered, gatherAt, gatherTo}
-use Rattle.mints.specs.Programs.{programsOf, programs-length, programs-at}
+use Rattle.mints.specs.Programs.{programsOf}
+use Rattle.mints.proofs.Programs.{programs-length, programs-at}
 use Rattle.token.proofs.Reading.{read-none}
 use Rattle.mints.proofs.Noting.{one-more}
 

@@ -9,7 +9,7 @@ use native.Mathlib.Decide.{ℕ-discrete}
 use native.Mathlib.Omega.{arith}
 use lib.ListN.{length}
 use Rattle.ids.specs.Keys.{Key, zeroKey}
-use Rattle.evidence.specs.Keys.{key?}
+use Rattle.evidence.proofs.Keys.{key?}
 use Rattle.evidence.specs.Table.{Table, lookup}
 use Rattle.mints.specs.Bytes.{mintWidth}
 use Rattle.mints.specs.Cells.{accountAt, mintAt, stateAt, held, withMint, withState}

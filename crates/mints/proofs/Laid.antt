@@ -10,8 +10,9 @@ use native.Mathlib.Omega.{arith}
 use lib.ListN.{length, getD}
 use lib.Seq.{sets, length-sets, getD-set-same, getD-set-other}
 use borrow.Author.Tests.{eq-eqb, ne-eqb}
-use Rattle.wire.specs.Same.{same, same-true, same-eq}
-use Rattle.wire.specs.Sets.{sets-before, sets-after}
+use Rattle.wire.specs.Same.{same}
+use Rattle.wire.proofs.Same.{same-true, same-eq}
+use Rattle.wire.proofs.Sets.{sets-before, sets-after}
 use Rattle.ids.specs.Keys.{Key, zeroKey}
 use Rattle.mints.specs.Bytes.{mintWidth}
 use Rattle.mints.specs.Cells.{accountAt, stateAt, firstFrom}

@@ -11,7 +11,7 @@ use borrow.Author.Tests.{eqb-true, eqb-false, ltb-true, ltb-false}
 use lib.Dec.{ltb, eqb}
 use lib.ListN.{length, getD, set}
 use lib.Seq.{sets, getD-set-same, getD-set-other}
-use Rattle.wire.specs.Sets.{sets-before, sets-in}
+use Rattle.wire.proofs.Sets.{sets-before, sets-in}
 use Rattle.ids.specs.Keys.{Key}
 use Rattle.mints.specs.Bytes.{mintWidth}
 use Rattle.mints.specs.Cells.{firstRow, Ends}

@@ -24,3 +24,4 @@ pub mod Prepared
 pub mod Preparing
 pub mod Right
 pub mod Working
+pub mod Programs

@@ -16,11 +16,11 @@ use Rattle.ids.specs.Keys.{Key}
 use Rattle.evidence.specs.Table.{Row, Table, lookup}
 use Rattle.evidence.specs.Evidence.{Evidence}
 use Rattle.evidence.specs.Passes.{Transfers}
-use Rattle.evidence.specs.Infer.{Settled, settled-distinct}
+use Rattle.evidence.proofs.Infer.{Settled, settled-distinct}
 use Rattle.evidence.specs.Final.{final}
 use Rattle.evidence.specs.Marks.{differ, opposes, opposed}
-use Rattle.evidence.specs.Lookups.{known, known-mint, known-zero, final-lookup, zero-lacks}
-use Rattle.evidence.specs.Marking.{opposed-append, opposes-none, opposes-source, opposes-target, opposes-other}
+use Rattle.evidence.proofs.Lookups.{known, known-mint, known-zero, final-lookup, zero-lacks}
+use Rattle.evidence.proofs.Marking.{opposed-append, opposes-none, opposes-source, opposes-target, opposes-other}
 use Rattle.mints.specs.Bytes.{mintWidth}
 use Rattle.mints.specs.Cells.{accountAt, mintAt, stateAt, held}
 use Rattle.mints.specs.Pass.{differAt, doubtAt, doubtsTo}

@@ -18,7 +18,7 @@ use Rattle.token.specs.declared.Token.the-variants.{Other, Initialise, Plain, C
 use Rattle.evidence.specs.Table.{Table}
 use Rattle.evidence.specs.Evidence.{note, noteAll}
 use Rattle.evidence.specs.Gather.{gather}
-use Rattle.evidence.specs.Loops.{gather-take, noteAll-append}
+use Rattle.evidence.proofs.Loops.{gather-take, noteAll-append}
 use Rattle.mints.specs.Note.{Noted, noteAt, balancesTo}
 use Rattle.mints.specs.Gather.{rowOf, noteAccount, observed}
 use Rattle.mints.specs.Inference.{balanceSays}

@@ -10,7 +10,7 @@ use borrow.Author.Tests.{ltb-true, ltb-false, le-ltb, eq-eqb}
 use lib.Dec.{ltb, eqb}
 use lib.ListN.{length, getD, set, take, drop, drop-of-length-le, take-append-drop, length-append, length-take, length-drop}
 use lib.Seq.{sets, drop-cons, sets-eq, take-at, take-take, take-add, drop-at, drop-drop, length-take-le}
-use Rattle.wire.specs.Sets.{sets-before, sets-front}
+use Rattle.wire.proofs.Sets.{sets-before, sets-front}
 use Rattle.evidence.specs.Keys.{ltKey}
 
 module _ (a b : List ℕ) (i : ℕ) where

@@ -6,7 +6,7 @@ use Prim.Native.Nat.{ℕ, _/_, _≤_}
 use native.Mathlib.Omega.{arith}
 use lib.ListN.{length, take, length-map, length-replicate}
 use lib.Seq.{take-all}
-use Rattle.wire.specs.Zeros.{zeros-at}
+use Rattle.wire.proofs.Zeros.{zeros-at}
 use Rattle.ids.specs.Keys.{Key, keyCount, keyOf}
 use Rattle.ids.specs.Which.{programAt}
 use Rattle.pack.specs.Invocation.{Instruction, instructionAt}
@@ -15,7 +15,7 @@ use Rattle.pack.proofs.Rows.{balances-length}
 use Rattle.evidence.specs.Evidence.{Evidence, noteAll, recorded}
 use Rattle.evidence.specs.Passes.{Transfers}
 use Rattle.evidence.specs.Gather.{gather}
-use Rattle.evidence.specs.Loops.{noteAll-append}
+use Rattle.evidence.proofs.Loops.{noteAll-append}
 use Rattle.mints.specs.Cells.{accountAt}
 use Rattle.mints.specs.Note.{balancesTo}
 use Rattle.mints.specs.Inference.{balanceSays, says, moves, evidenceOf, transfersOf}

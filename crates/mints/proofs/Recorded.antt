@@ -8,13 +8,13 @@ use Prim.Native.Nat.{ℕ, zero, suc, _+_, _*_, _≤_, _<_}
 use native.Mathlib.Decide.{ℕ-discrete}
 use native.Mathlib.Omega.{arith}
 use lib.ListN.{length}
-use Rattle.wire.specs.Same.{same-eq, same-ne}
+use Rattle.wire.proofs.Same.{same-eq, same-ne}
 use Rattle.ids.specs.Keys.{Key, zeroKey}
-use Rattle.evidence.specs.Keys.{key?}
+use Rattle.evidence.proofs.Keys.{key?}
 use Rattle.evidence.specs.Table.{Table, lookup}
 use Rattle.evidence.specs.Evidence.{note}
-use Rattle.evidence.specs.Recording.{note-account, note-mint}
-use Rattle.evidence.specs.Lookups.{merge, note-here, note-other, note-first, note-again}
+use Rattle.evidence.proofs.Recording.{note-account, note-mint}
+use Rattle.evidence.proofs.Lookups.{merge, note-here, note-other, note-first, note-again}
 use Rattle.mints.specs.Bytes.{mintWidth}
 use Rattle.mints.specs.Cells.{mintAt, stateAt, held, withMint, withState}
 use Rattle.mints.specs.Note.{recordAt, newAt}

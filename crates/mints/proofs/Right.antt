@@ -12,9 +12,10 @@ use Rattle.evidence.specs.Table.{Table}
 use Rattle.evidence.specs.Evidence.{Evidence, recorded}
 use Rattle.evidence.specs.Passes.{Transfers}
 use Rattle.evidence.specs.Run.{Outcome}
-use Rattle.evidence.specs.Infer.{infer, infer-settled}
+use Rattle.evidence.specs.Infer.{infer}
+use Rattle.evidence.proofs.Infer.{infer-settled}
 use Rattle.evidence.specs.MintTable.{Answer, mintIn, mints}
-use Rattle.evidence.specs.Loops.{mints-some, mints-none}
+use Rattle.evidence.proofs.Loops.{mints-some, mints-none}
 use Rattle.mints.specs.Cells.{mintAt, stateAt, held}
 use Rattle.mints.specs.Gather.{Gathered}
 use Rattle.mints.specs.Pass.{Ran, passes, doubtsTo}

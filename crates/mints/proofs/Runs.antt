@@ -16,7 +16,8 @@ use Rattle.evidence.specs.Evidence.{Evidence, recorded}
 use Rattle.evidence.specs.Passes.{Transfers, pass}
 use Rattle.evidence.specs.Run.{Outcome, run}
 use Rattle.evidence.specs.Infer as theory
-use Rattle.evidence.specs.Loops.{plus, run-start, run-next, run-last, run-over, infer-empty, infer-run}
+use Rattle.evidence.proofs.Infer as laws
+use Rattle.evidence.proofs.Loops.{plus, run-start, run-next, run-last, run-over, infer-empty, infer-run}
 use Rattle.mints.specs.Pass.{passTo, Ran, passesFrom, passes}
 use Rattle.mints.proofs.Holding.{Apart}
 use Rattle.mints.proofs.Stepped.{Held, pairsTo, passed}
@@ -51,7 +52,7 @@ module _ {n : ℕ} {α : ℕ → Key} {r₀ : Table} (p : Apart n α) (f g : Lis
       last z x =
           let l : length (pass t (pairsTo α f g c)) ≡ length t = omega (arith, x .1) in
           rw (eq-eqb _ _ z, run-last 512 (theory.passes (pairsTo α f g c)) k t (omega arith) l)
-          (done (subst (λ (u : Table). Held n α r₀ (passTo f g w c .table) u) ((theory.pass-still t (pairsTo α f g c) l) .1) (x .0)) e (add-one k) (omega arith))
+          (done (subst (λ (u : Table). Held n α r₀ (passTo f g w c .table) u) ((laws.pass-still t (pairsTo α f g c) l) .1) (x .0)) e (add-one k) (omega arith))
 
       next : passTo f g w c .room ≢ 0 → Held n α r₀ (passTo f g w c .table) (pass t (pairsTo α f g c)) × (length (pass t (pairsTo α f g c)) ≡ length t + passTo f g w c .room)
           → (Held n α r₀ (passTo f g w c .table) (pass t (pairsTo α f g c)) → length (pass t (pairsTo α f g c)) ≡ room + passTo f g w c .room → Ended n α r₀ (passesFrom f g c d (passTo f g w c .table) (room + passTo f g w c .room) (k + 1)) (plus (k + 1) (run (512 - (k + 1)) (theory.passes (pairsTo α f g c)) (pass t (pairsTo α f g c)))))

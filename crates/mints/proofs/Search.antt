@@ -9,7 +9,8 @@ use native.Mathlib.Omega.{arith}
 use lib.ListN.{length, getD, length-take, length-drop}
 use lib.Seq.{ext-getD, getD-take, getD-drop}
 use lib.Dec.{ltb}
-use Rattle.wire.specs.Same.{same, same-refl, same-not-at}
+use Rattle.wire.specs.Same.{same}
+use Rattle.wire.proofs.Same.{same-refl, same-not-at}
 use Rattle.mints.specs.Bytes.{mintWidth}
 use Rattle.mints.specs.Cells.{accountAt, Fits, Ends, firstFrom}
 use Rattle.mints.specs.Gather.{rowOf}

@@ -9,12 +9,13 @@ use Prim.Native.Nat.{ℕ, zero, suc, _+_, _*_, _≤_, _<_}
 use native.Mathlib.Decide.{ℕ-discrete}
 use native.Mathlib.Omega.{arith}
 use lib.ListN.{length, length-take, length-drop, getD}
-use Rattle.wire.specs.Same.{same-eq}
+use Rattle.wire.proofs.Same.{same-eq}
 use Rattle.ids.specs.Keys.{Key, zeroKey, isZero}
 use Rattle.evidence.specs.Table.{Table, add, lookup}
-use Rattle.evidence.specs.Passes.{Transfers, step, pass, length-add}
-use Rattle.evidence.specs.Lookups.{add-here, add-other, step-zero, step-forth, step-back, step-known, step-unknown, step-ambiguous, step-ambiguous-back}
-use Rattle.evidence.specs.Loops.{pass-append}
+use Rattle.evidence.specs.Passes.{Transfers, step, pass}
+use Rattle.evidence.proofs.Passes.{length-add}
+use Rattle.evidence.proofs.Lookups.{add-here, add-other, step-zero, step-forth, step-back, step-known, step-unknown, step-ambiguous, step-ambiguous-back}
+use Rattle.evidence.proofs.Loops.{pass-append}
 use Rattle.mints.specs.Bytes.{mintWidth}
 use Rattle.mints.specs.Cells.{mintAt, stateAt, held}
 use Rattle.mints.specs.Pass.{handAt, stepAt, filledAt, passTo}

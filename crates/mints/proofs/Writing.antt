@@ -12,8 +12,9 @@ use lib.Seq.{sets, take-suc, getD-take, set-getD}
 use borrow.Author.Tests.{le-ltb}
 use native.Mathlib.Decide.{decLt}
 use mathlib.Core.Logic.{by-cases}
-use Rattle.wire.specs.Sets.{sets-append, sets-after}
-use Rattle.wire.specs.Zeros.{zeros, zeros-at}
+use Rattle.wire.proofs.Sets.{sets-append, sets-after}
+use Rattle.wire.specs.Zeros.{zeros}
+use Rattle.wire.proofs.Zeros.{zeros-at}
 use Rattle.ids.specs.Keys.{zeroKey}
 use Rattle.evidence.specs.MintTable.{MintRow}
 use Rattle.mints.specs.Bytes.{mintWidth, mintRow}

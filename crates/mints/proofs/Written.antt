@@ -13,17 +13,20 @@ use lib.ListN.{getD, drop}
 use lib.Seq.{take-add, drop-drop}
 use borrow.Author.Tests.{lt-ltb, ltb-true}
 use Rattle.ids.specs.Keys.{Key, zeroKey}
-use Rattle.evidence.specs.Keys.{Below, ltKey-true, ltKey-false}
+use Rattle.evidence.specs.Keys.{Below}
+use Rattle.evidence.proofs.Keys.{ltKey-true, ltKey-false}
 use Rattle.evidence.specs.Table.{Table, lookup}
 use Rattle.evidence.specs.Evidence.{Evidence, recorded}
 use Rattle.evidence.specs.Passes.{Transfers}
-use Rattle.evidence.specs.Infer.{Settled, settled-distinct}
+use Rattle.evidence.proofs.Infer.{Settled, settled-distinct}
 use Rattle.evidence.specs.Final.{final}
 use Rattle.evidence.specs.Marks.{opposed, markOf}
-use Rattle.evidence.specs.MintTable.{MintRow, mintTable, mintIn, table-mint}
-use Rattle.evidence.specs.Marking.{mark-zero, mark-filled}
-use Rattle.evidence.specs.Ascending.{Ascending, asc-nil, ascending-put, ascending-map}
-use Rattle.evidence.specs.Written as theory
+use Rattle.evidence.specs.MintTable.{MintRow, mintTable, mintIn}
+use Rattle.evidence.proofs.MintTable.{table-mint}
+use Rattle.evidence.proofs.Marking.{mark-zero, mark-filled}
+use Rattle.evidence.specs.Ascending.{Ascending, asc-nil}
+use Rattle.evidence.proofs.Ascending.{ascending-put, ascending-map}
+use Rattle.evidence.proofs.Written as theory
 use Rattle.mints.specs.Cells.{accountAt, mintAt, stateAt, held}
 use Rattle.mints.specs.Order.{spotIn, putIn, sortTo, rowBytes, rowsBytes, mintOf, mintsTo}
 use Rattle.mints.specs.Bytes.{mintWidth, tableBytes, orZero, mintsOf}

@@ -1,28 +1,10 @@
 -- The number of each instruction's program, for the layers that look at programs again.
 -- Assumes nothing.
-use Prim.Native.Nat.{ℕ, zero, suc, _<_}
-use mathlib.Core.Path.{_≡_, refl, ap, _∙_}
-use mathlib.Core.List.{List, [], _∷_, map}
-use native.Mathlib.Omega.{arith}
-use lib.ListN.{length, getD, length-map}
-use Rattle.ids.specs.Which.{ofNumber, programAt}
-use Rattle.ids.specs.Cases.{numberAt, number-program}
+use Prim.Native.Nat.{ℕ}
+use mathlib.Core.List.{List, map}
+use Rattle.ids.specs.Cases.{numberAt}
 use Rattle.pack.specs.Invocation.{instructionAt}
 
 -- the numbers of the programs of the instructions at the offsets
 unfoldable pub programsOf : List ℕ → List ℕ → List ℕ → List ℕ
 programsOf ks p offsets = map (λ o. numberAt ks (instructionAt p o .program)) offsets
-
-pub programs-length : (ks p offsets : List ℕ) → length (programsOf ks p offsets) ≡ length offsets
-unfolding programsOf
-programs-length ks p offsets = length-map offsets (λ o. numberAt ks (instructionAt p o .program))
-
-pub programs-at : (ks p offsets : List ℕ) (i : ℕ) → i < length offsets → getD (programsOf ks p offsets) i 0 ≡ numberAt ks (instructionAt p (getD offsets i 0) .program)
-unfolding programsOf
-programs-at ks p [] i h = absurd (omega arith)
-programs-at ks p (o ∷ offsets) zero h = refl
-programs-at ks p (o ∷ offsets) (suc i) h = programs-at ks p offsets i (omega arith)
-
--- a kept number is that of the instruction's program
-pub kept-program : (ks p offsets : List ℕ) (i : ℕ) → i < length offsets → ofNumber (getD (programsOf ks p offsets) i 0) ≡ programAt ks (instructionAt p (getD offsets i 0) .program)
-kept-program ks p offsets i h = ap ofNumber (programs-at ks p offsets i h) ∙ number-program ks (instructionAt p (getD offsets i 0) .program)

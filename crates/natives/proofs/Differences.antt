@@ -11,7 +11,8 @@ use native.Mathlib.Omega.{arith}
 use lib.Dec.{ltb, eqb}
 use lib.ListN.{length}
 use borrow.Author.Tests.{ne-eqb}
-use Rattle.wire.specs.Same.{same, same-true}
+use Rattle.wire.specs.Same.{same}
+use Rattle.wire.proofs.Same.{same-true}
 use Rattle.wire.specs.Zeros.{zeros}
 use Rattle.ids.specs.declared.Id.{Id}
 use Rattle.ids.specs.declared.Id.the-variants.{SplToken, System, Unresolved}

@@ -7,7 +7,7 @@ use Prim.Native.Nat.{ℕ, _*_}
 use native.Mathlib.Omega.{arith}
 use lib.ListN.{length, set, length-append}
 use lib.Seq.{sets}
-use Rattle.wire.specs.Sets.{sets-next, sets-whole}
+use Rattle.wire.proofs.Sets.{sets-next, sets-whole}
 use Rattle.wire.specs.Le.{leBytes}
 use Rattle.wire.proofs.Laws.{leBytes-length}
 use Rattle.ids.specs.declared.Id.{Id}

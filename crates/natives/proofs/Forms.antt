@@ -9,7 +9,8 @@ use lib.Dec.{leb, eqb}
 use lib.ListN.{length, getD, take, drop, take-append-drop}
 use borrow.Author.Tests.{eq-eqb, ne-eqb, eqb-false, ltb-true}
 use Rattle.wire.specs.Le.{le, leBytes}
-use Rattle.wire.specs.Same.{same, same-eq, same-ne, same-not-long}
+use Rattle.wire.specs.Same.{same}
+use Rattle.wire.proofs.Same.{same-eq, same-ne, same-not-long}
 use Rattle.wire.proofs.Laws.{le-back}
 use Rattle.ids.specs.declared.Id.{Id}
 use Rattle.ids.specs.Which.{numberOf}

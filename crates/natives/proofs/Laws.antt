@@ -11,8 +11,9 @@ use lib.Dec.{leb, eqb}
 use lib.ListN.{length, getD, take, drop}
 use lib.Seq.{drop-cons, drop-length}
 use borrow.Author.Tests.{lt-ltb, le-ltb, leb-true}
-use Rattle.wire.specs.Same.{same, same-true}
-use Rattle.wire.specs.Below.{and-right}
+use Rattle.wire.specs.Same.{same}
+use Rattle.wire.proofs.Same.{same-true}
+use Rattle.wire.proofs.Below.{and-right}
 use Rattle.ids.specs.declared.Id.{Id}
 use Rattle.ids.specs.Ids.{ids, idAt}
 use Rattle.ids.specs.Keys.{Key, zeroKey}

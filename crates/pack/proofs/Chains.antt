@@ -13,13 +13,14 @@ use lib.Dec.{eqb}
 use lib.ListN.{length, getD, drop, set, length-map, length-drop}
 use lib.Seq.{sets, drop-cons, drop-drop, getD-drop, getD-set-same, getD-set-other}
 use Rattle.wire.specs.Le.{le}
-use Rattle.wire.specs.Sets.{sets-next}
+use Rattle.wire.proofs.Sets.{sets-next}
 use Rattle.pack.specs.Invocation.{Position}
 use Rattle.pack.specs.Items.{innersFrom, countAt, groupAt}
 use Rattle.pack.specs.Flatten.{numbered, inside}
 use Rattle.pack.proofs.Walk.{inners-length}
 use Rattle.pack.proofs.Counting.{numbered-length}
-use Rattle.pack.specs.Layout.{placedAt, firstFrom, nextOf}
+use Rattle.pack.specs.Layout.{placedAt}
+use Rattle.pack.specs.Loops.{firstFrom, nextOf}
 
 -- the first group of outer i from place k on is group k, or the first from place m = k + 1 on
 module _ (s gs : List ℕ) (k m : ℕ) (after : m ≡ k + 1) where

@@ -12,7 +12,7 @@ use lib.Dec.{leb, eqb}
 use lib.ListN.{length, getD, length-map, length-replicate}
 use lib.Seq.{sets}
 use Rattle.wire.specs.Zeros.{zeros}
-use Rattle.wire.specs.Below.{and-left, and-right}
+use Rattle.wire.proofs.Below.{and-left, and-right}
 use Rattle.pack.specs.Invocation.{Position, Invocation, instructionAt, lowered, positionAt}
 use Rattle.pack.specs.Group.{Group}
 use Rattle.pack.specs.Sections.{startOf, sectionOf}

@@ -16,7 +16,8 @@ use Rattle.pack.specs.Items.{outersAt, groupGood, groupAt, groupsAt, gro
 use Rattle.pack.specs.View.{outerIn, groupsIn}
 use Rattle.pack.specs.Flatten.{keptIn}
 use Rattle.pack.specs.Verdict.{numberOf, verdict}
-use Rattle.pack.specs.Layout.{layout, spreadOf, placedAt, keptAt, firstFrom, nextOf, Chained}
+use Rattle.pack.specs.Layout.{layout, spreadOf, placedAt}
+use Rattle.pack.specs.Loops.{keptAt, firstFrom, nextOf, Chained}
 use Rattle.pack.proofs.Counting.{all-length}
 use Rattle.pack.proofs.Sizes.{invocations-length}
 use Rattle.pack.proofs.Places.{group-inside}

@@ -10,7 +10,8 @@ use borrow.Author.Tests.{leb-true, ltb-false, le-leb, lt-ltb}
 use lib.Dec.{leb, ltb, eqb}
 use lib.ListN.{length, take, drop, length-take, length-drop}
 use Rattle.wire.specs.Same.{same}
-use Rattle.wire.specs.Below.{allBelow, below-at, and-left, and-right}
+use Rattle.wire.specs.Below.{allBelow}
+use Rattle.wire.proofs.Below.{below-at, and-left, and-right}
 use Rattle.pack.specs.declared.Verdict.{Verdict}
 use Rattle.pack.specs.declared.Verdict.the-variants.{Good, Mark, Starts, Section, Keys, Invocations}
 use Rattle.pack.specs.Sections.{mark, marked, ordered, startOf, hasSection, sectionOf}

@@ -10,12 +10,12 @@ use borrow.Author.Tests.{ltb-true, ltb-false, leb-true, ne-eqb}
 use lib.Dec.{leb, ltb, eqb}
 use lib.ListN.{length, getD, take, drop}
 use lib.Seq.{sets, sets-eq, take-at}
-use Rattle.wire.specs.Sets.{sets-in}
+use Rattle.wire.proofs.Sets.{sets-in}
 use Rattle.wire.specs.Le.{le}
-use Rattle.wire.specs.Below.{and-left, and-right}
+use Rattle.wire.proofs.Below.{and-left, and-right}
 use Rattle.pack.specs.Items.{itemEnd, outersFrom, outersFill, innersFrom, countAt, groupEnd, groupGood, groupAt, groupsFrom, groupsFill}
 use Rattle.pack.specs.Flatten.{numbered, inside, keptIn}
-use Rattle.pack.specs.Layout.{keeps, keptFrom}
+use Rattle.pack.specs.Loops.{keeps, keptFrom}
 use Rattle.pack.proofs.Walk.{inners-length}
 
 -- each of a list's members

@@ -12,11 +12,11 @@ use borrow.Author.Tests.{lt-ltb, le-ltb, leb-true}
 use lib.Dec.{leb}
 use lib.ListN.{length, set}
 use lib.Seq.{sets}
-use Rattle.wire.specs.Below.{and-left, and-right}
+use Rattle.wire.proofs.Below.{and-left, and-right}
 use Rattle.pack.specs.Invocation.{Position}
 use Rattle.pack.specs.Items.{itemEnd, outersFrom, outersFill, outersAt, outersWhole, heightAt, innersEnd, innersGood, innersFrom, countAt, groupEnd, groupGood, groupsFrom, groupsFill}
 use Rattle.pack.specs.Flatten.{numbered}
-use Rattle.pack.specs.Layout.{keeps, keptFrom}
+use Rattle.pack.specs.Loops.{keeps, keptFrom}
 use Rattle.pack.proofs.Walk.{item-grows, inners-inside, inners-grow}
 
 -- the first of a run of stores

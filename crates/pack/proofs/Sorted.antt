@@ -13,7 +13,7 @@ use Rattle.pack.specs.Group.{Group}
 use Rattle.pack.specs.View.{View}
 use Rattle.pack.specs.Flatten.{numbered, inside, flattenFrom, invocation, flatten}
 use Rattle.pack.specs.Sorted.{inOrder, insert, sorted, groupOrder, taken, passed, walkFrom}
-use Rattle.wire.specs.Below.{and-left, and-right}
+use Rattle.wire.proofs.Below.{and-left, and-right}
 
 module _ {A : Type 0} where
   -- every index is at least k

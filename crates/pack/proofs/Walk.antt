@@ -10,7 +10,7 @@ use borrow.Author.Tests.{le-leb, lt-leb, lt-ltb, le-ltb, leb-true}
 use lib.Dec.{ltb, leb}
 use lib.ListN.{length}
 use Rattle.wire.specs.Le.{le}
-use Rattle.wire.specs.Below.{and-left, and-right}
+use Rattle.wire.proofs.Below.{and-left, and-right}
 use Rattle.pack.specs.declared.whole.Count.{Count}
 use Rattle.pack.specs.declared.whole.Count.the-variants.{Of, Broken}
 use Rattle.pack.specs.declared.whole.Walk.{Walk}

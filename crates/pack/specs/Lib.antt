@@ -7,3 +7,4 @@ pub mod Flatten
 pub mod Sorted
 pub mod Verdict
 pub mod Layout
+pub mod Loops

@@ -13,7 +13,8 @@ ghost use Rattle.wire.specs.Zeros.{zeros};
 ghost use Rattle.pack.specs.Items.{outersAt, outersWhole, heightAt, innersEnd, innersFrom, countAt, groupEnd, groupsAt, groupsWhole};
 ghost use Rattle.pack.specs.Flatten.{numbered, inside};
 ghost use Rattle.pack.specs.Verdict.{verdict, numberOf};
-ghost use Rattle.pack.specs.Layout.{placedAt, keeps as keepsOf, keptAt, firstFrom, nextOf, raised, Chained, Wrote, spreadOf, layout, Flattened};
+ghost use Rattle.pack.specs.Layout.{placedAt, raised, Wrote, spreadOf, layout, Flattened};
+ghost use Rattle.pack.specs.Loops.{keeps as keepsOf, keptAt, firstFrom, nextOf, Chained};
 use super::Verdict;
 
 // How many instructions section 2 has.

@@ -9,8 +9,8 @@ use native.Mathlib.Omega.{arith}
 use borrow.Author.Tests.{eqb-true}
 use lib.ListN.{length, getD, take, drop, length-replicate}
 use lib.Seq.{sets, length-sets, take-all, length-take-le, getD-take}
-use Rattle.wire.specs.Below.{and-left}
-use Rattle.wire.specs.Sets.{sets-in}
+use Rattle.wire.proofs.Below.{and-left}
+use Rattle.wire.proofs.Sets.{sets-in}
 use Rattle.wire.specs.Zeros.{zeros}
 use Rattle.ids.specs.Keys.{keyOf, keyCount}
 use Rattle.ids.specs.Which.{ofNumber}
@@ -25,7 +25,8 @@ use Rattle.pack.proofs.Good.{passed}
 use Rattle.pack.proofs.Entries.{count-is, entry}
 use Rattle.evidence.specs.MintTable.{Answer}
 use Rattle.mints.specs.Inference.{inferredIn, answerOf, rowsOf as rowsIn, finalOf}
-use Rattle.mints.specs.Programs.{programsOf, programs-length, kept-program}
+use Rattle.mints.specs.Programs.{programsOf}
+use Rattle.mints.proofs.Programs.{programs-length, kept-program}
 use Rattle.mints.specs.Bytes.{tableBytes, mintsOf as finalMints}
 use Rattle.mints.specs.declared.Inferred.{Inferred}
 use Rattle.subtrees.specs.Subtrees.{tab, positions}

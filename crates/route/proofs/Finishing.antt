@@ -7,7 +7,8 @@ use Prim.Native.Nat.{ℕ, zero, suc, _-_, _≤_}
 use native.Mathlib.Omega.{arith}
 use lib.ListN.{length, getD}
 use lib.Seq.{sets}
-use Rattle.wire.specs.Zeros.{zeros, zeros-at}
+use Rattle.wire.specs.Zeros.{zeros}
+use Rattle.wire.proofs.Zeros.{zeros-at}
 use Rattle.pack.specs.Invocation.{Position}
 use Rattle.pack.specs.Sections.{sectionOf}
 use Rattle.evidence.specs.MintTable.{MintRow}

@@ -12,9 +12,11 @@ use native.Mathlib.Omega.{arith}
 use borrow.Author.Tests.{eq-eqb, le-ltb}
 use lib.ListN.{length, drop, length-append, length-take, length-drop, length-replicate}
 use lib.Seq.{sets, sets-eq, length-sets, take-at, drop-at, ext-getD, getD-take, getD-drop}
-use Rattle.wire.specs.Same.{same, same-eq, same-ne}
-use Rattle.wire.specs.Sets.{sets-after}
-use Rattle.wire.specs.Zeros.{zeros, zeros-at}
+use Rattle.wire.specs.Same.{same}
+use Rattle.wire.proofs.Same.{same-eq, same-ne}
+use Rattle.wire.proofs.Sets.{sets-after}
+use Rattle.wire.specs.Zeros.{zeros}
+use Rattle.wire.proofs.Zeros.{zeros-at}
 use Rattle.ids.specs.Keys.{Key, zeroKey, keyOf, keyCount}
 use Rattle.ids.specs.Mints.{isMint, mintOf}
 use Rattle.evidence.specs.MintTable.{MintRow, mintIn}

@@ -20,7 +20,6 @@ pub mod Called
 pub mod Claims
 pub mod Widths
 pub mod Laid
-pub mod Packing
 pub mod MarkedCases
 pub mod WorkedCases
 pub mod WorkedLimits

@@ -7,7 +7,7 @@ use native.Mathlib.Nat.{zero-add, add-zero, suc-mul}
 use native.Mathlib.Omega.{arith}
 use lib.ListN.{length, getD, take, drop}
 use lib.Seq.{sets, ext-getD, drop-drop}
-use Rattle.wire.specs.Sets.{sets-in}
+use Rattle.wire.proofs.Sets.{sets-in}
 use Rattle.pack.specs.Items.{rows}
 use Rattle.subtrees.specs.Subtrees.{tab}
 use Rattle.subtrees.proofs.Arrays.{tab-length, tab-at}

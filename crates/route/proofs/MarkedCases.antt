@@ -51,7 +51,7 @@ use Rattle.route.specs.Actions.{actionOf, actionRows}
 use Rattle.route.specs.Tables.{invocationAt, tablesWith, tablesIf, tables}
 use Rattle.route.specs.Route.{Lent, Routed, accepted, fitted, passed, judged, route}
 use Rattle.route.specs.MarkedCases.{Outcome, seen, key, cases}
-use Rattle.route.proofs.Packing.{packOf, ReadBack}
+use Rattle.route.specs.Packing.{packOf, ReadBack}
 
 -- the discriminators that the names have in the full repository; no case asks for the two configs
 unfoldable pub names : List ℕ

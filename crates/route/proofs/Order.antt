@@ -10,10 +10,12 @@ use lib.ListN.{length, getD, take, drop, length-map}
 use Rattle.ids.specs.Keys.{Key}
 use Rattle.evidence.specs.Evidence.{Free, One}
 use Rattle.evidence.specs.Chains.{Chain}
-use Rattle.evidence.specs.Ascending.{Ascending, ascending-once}
-use Rattle.evidence.specs.Independence.{Apart, Unjoined, unjoined-apart}
+use Rattle.evidence.specs.Ascending.{Ascending}
+use Rattle.evidence.proofs.Ascending.{ascending-once}
+use Rattle.evidence.specs.Independence.{Apart, Unjoined}
+use Rattle.evidence.proofs.Independence.{unjoined-apart}
 use Rattle.evidence.specs.MintTable.{Answer, rowAccounts}
-use Rattle.evidence.specs.Order.{row-right, row-reached, row-order, row-kept, row-recorded, row-filled, row-sure, Alike}
+use Rattle.evidence.proofs.Order.{row-right, row-reached, row-order, row-kept, row-recorded, row-filled, row-sure, Alike}
 use Rattle.mints.specs.Bytes.{mintRow}
 use Rattle.pack.specs.Items.{rows}
 use Rattle.pack.proofs.Rows.{row-at}

@@ -5,10 +5,12 @@ use mathlib.Core.Logic.{_↔_}
 use mathlib.Core.List.{List, List·Memᴰ}
 use Prim.Native.Nat.{ℕ}
 use Rattle.ids.specs.Keys.{Key}
-use Rattle.evidence.specs.Table.{same-sym}
-use Rattle.evidence.specs.Evidence.{Free, One, free-map}
+use Rattle.evidence.proofs.Table.{same-sym}
+use Rattle.evidence.specs.Evidence.{Free, One}
+use Rattle.evidence.proofs.Evidence.{free-map}
 use Rattle.evidence.specs.Chains.{Chain}
-use Rattle.evidence.specs.Independence.{Apart, Unjoined, same-agree, same-chain, unjoined-apart}
+use Rattle.evidence.specs.Independence.{Apart, Unjoined}
+use Rattle.evidence.proofs.Independence.{same-agree, same-chain, unjoined-apart}
 use Rattle.evidence.specs.MintTable.{rowAccounts}
 use Rattle.route.specs.declared.Answer.{Answer}
 use Rattle.route.specs.Route.{Lent, lent, Routed, route, Leaves}

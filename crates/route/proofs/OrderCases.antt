@@ -11,7 +11,7 @@ use Rattle.wire.specs.Same.{same}
 use Rattle.ids.specs.Keys.{Key, zeroKey}
 use Rattle.ids.specs.Ids.{ids}
 use Rattle.ids.specs.Which.{ofNumber, rowFrom, which, programAt}
-use Rattle.pack.specs.Invocation.{instructionAt}
+use Rattle.pack.specs.Invocation.{instructionAt, Instruction}
 use Rattle.pack.specs.Sections.{mark, marked, startOf, ordered, hasSection, sectionOf}
 use Rattle.pack.specs.Items.{rows, rowsFill, keysFill, itemEnd, outersFrom, outersFill, heightAt, groupsFrom, groupsFill}
 use Rattle.pack.specs.View.{keysIn, balancesIn, outerIn, groupsIn, viewOf}
@@ -34,7 +34,7 @@ use Rattle.evidence.specs.Infer.{runFrom, infer}
 use Rattle.evidence.specs.Sorted.{insert, sort}
 use Rattle.evidence.specs.Final.{clean, final}
 use Rattle.evidence.specs.Marks.{absent, differ, opposes, opposed, markOf}
-use Rattle.evidence.specs.MintTable.{mintTable, finish, mints, mintIn}
+use Rattle.evidence.specs.MintTable.{mintTable, finish, mints, mintIn, MintRow}
 use Rattle.mints.specs.Inference.{balanceSays, says, moves, evidenceOf, transfersOf, inferred}
 use Rattle.subtrees.specs.Descendant.{higher, inners, descendant}
 use Rattle.subtrees.specs.Blocks.{firstNot, anyIn, countIn, sumIn, atop, testsAt}
@@ -46,16 +46,13 @@ use Rattle.route.specs.Legs.{legOf, legRows}
 use Rattle.route.specs.Actions.{actionOf, actionRows}
 use Rattle.route.specs.Tables.{invocationAt, tablesWith, tablesIf, tables}
 use Rattle.route.specs.Route.{accepted, fitted, passed, judged, route}
-use Rattle.route.specs.MarkedCases.{key}
+use Rattle.route.specs.MarkedCases.{key, keysFor, saying, pays, meeting, A, B, C, X, Y}
 use Rattle.ids.specs.declared.Id.the-variants.{SplToken}
-use Rattle.pack.specs.Invocation.{Instruction}
 use Rattle.evidence.specs.Chains.{Chain, start, along}
 use Rattle.evidence.specs.Independence.{Apart}
-use Rattle.evidence.specs.MintTable.{MintRow}
 use Rattle.route.specs.Order.{evidenceIn, plainsIn, SameEvidence, mintsRead, mintsLeft, Succeeds}
-use Rattle.route.specs.MarkedCases.{keysFor, saying, pays, meeting, A, B, C, X, Y}
 use Rattle.route.proofs.Order.{same-count, same-bytes}
-use Rattle.route.proofs.Packing.{packOf}
+use Rattle.route.specs.Packing.{packOf}
 use Rattle.route.proofs.MarkedCases.{names, room}
 
 -- two packs with the same evidence, neither of them refused, and the rows and passes that each leaves

@@ -18,8 +18,9 @@ use Rattle.token.specs.Tokens.{initialises, plainTransfer, checkedTransfer, fee
 use Rattle.token.specs.Records.{bothEnds, records, plain}
 use Rattle.ids.proofs.Keys.{key-length}
 use Rattle.evidence.specs.Table.{Row}
-use Rattle.evidence.specs.Gather.{gather, gather-mem}
-use Rattle.evidence.specs.Bound.{Among}
+use Rattle.evidence.specs.Gather.{gather}
+use Rattle.evidence.proofs.Gather.{gather-mem}
+use Rattle.evidence.proofs.Bound.{Among}
 use Rattle.mints.specs.Inference.{balanceSays, says, moves, evidenceOf, transfersOf}
 use Rattle.subtrees.specs.Subtrees.{tab}
 

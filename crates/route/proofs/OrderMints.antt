@@ -21,13 +21,13 @@ use Rattle.evidence.specs.Table.{SameMembers}
 use Rattle.evidence.specs.Evidence.{Evidence}
 use Rattle.evidence.specs.Passes.{Transfers, forth, back, Joined, joined}
 use Rattle.evidence.specs.Chains.{Chain, start, along}
-use Rattle.evidence.specs.Distinct.{covered-length}
-use Rattle.evidence.specs.Infer.{settled-distinct}
-use Rattle.evidence.specs.Sorted.{sorted-distinct}
-use Rattle.evidence.specs.Final.{final-sorted, final-gives}
-use Rattle.evidence.specs.Gather.{gather-same, append-same}
+use Rattle.evidence.proofs.Distinct.{covered-length}
+use Rattle.evidence.proofs.Infer.{settled-distinct}
+use Rattle.evidence.proofs.Sorted.{sorted-distinct}
+use Rattle.evidence.proofs.Final.{final-sorted, final-gives}
+use Rattle.evidence.proofs.Gather.{gather-same, append-same}
 use Rattle.evidence.specs.MintTable.{Answer, mintTable}
-use Rattle.evidence.specs.Order.{Made, mints-made, answered-256, row-right, Alike, alike}
+use Rattle.evidence.proofs.Order.{Made, mints-made, answered-256, row-right, Alike, alike}
 use Rattle.mints.specs.Inference.{balanceSays, says, moves, evidenceOf, transfersOf, inferred}
 use Rattle.subtrees.proofs.Arrays.{tab-length}
 use Rattle.route.specs.Order.{instructionsIn, evidenceIn, plainsIn, mintsIn, SameEvidence}

@@ -8,7 +8,7 @@ use native.Mathlib.Omega.{arith}
 use lib.ListN.{length, getD, take, drop, length-append, length-map, length-replicate}
 use lib.Seq.{sets, sets-eq, take-at, drop-at, getD-at}
 use Rattle.wire.specs.Zeros.{zeros}
-use Rattle.wire.specs.Sets.{sets-next}
+use Rattle.wire.proofs.Sets.{sets-next}
 use Rattle.pack.specs.Items.{rows}
 use Rattle.evidence.specs.MintTable.{MintRow}
 use Rattle.mints.specs.Bytes.{mintRow}

@@ -12,7 +12,7 @@ use lib.ListN.{length, set, length-append}
 use lib.Seq.{sets}
 use Rattle.ids.specs.declared.Id.{Id}
 use Rattle.wire.specs.Le.{leBytes}
-use Rattle.wire.specs.Sets.{sets-next, sets-whole}
+use Rattle.wire.proofs.Sets.{sets-next, sets-whole}
 use Rattle.wire.proofs.Laws.{leBytes-length}
 use Rattle.pack.specs.Invocation.{Position, lowered}
 use Rattle.route.specs.Arrays.{ownBits}

@@ -7,7 +7,7 @@ use native.Mathlib.Nat.{add-zero, zero-add, add-suc, suc-add}
 use native.Mathlib.Numerals.{add-one}
 use native.Mathlib.Omega.{arith}
 use lib.ListN.{length, set, length-append}
-use Rattle.wire.specs.Sets.{sets-next}
+use Rattle.wire.proofs.Sets.{sets-next}
 use lib.Seq.{sets}
 use Rattle.subtrees.specs.Subtrees.{tab}
 use Rattle.subtrees.proofs.Arrays.{tab-length}

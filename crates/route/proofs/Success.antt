@@ -14,8 +14,8 @@ use Rattle.wire.specs.Zeros.{zeros}
 use Rattle.pack.specs.Sections.{sectionOf}
 use Rattle.pack.specs.Verdict.{verdict, numberOf, placeOf}
 use Rattle.evidence.specs.MintTable.{MintRow, Answer}
-use Rattle.evidence.specs.Order.{row-right}
-use Rattle.evidence.specs.Chains.{chain-mint, chain-account}
+use Rattle.evidence.proofs.Order.{row-right}
+use Rattle.evidence.proofs.Chains.{chain-mint, chain-account}
 use Rattle.mints.specs.Bytes.{mintRow, tableBytes}
 use Rattle.mints.specs.declared.Inferred.{Inferred}
 use Rattle.mints.specs.declared.Inferred.the-variants.{Made, TooManyPasses}

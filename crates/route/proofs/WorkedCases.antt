@@ -60,7 +60,7 @@ use Rattle.route.specs.MarkedCases.{key}
 use Rattle.route.specs.WorkedForm.{Shown, shown, due, row, first, second, names, room}
 use Rattle.route.specs.WorkedLegs.{forms, legCases}
 use Rattle.route.specs.WorkedCases.{rowCases, keyCases, worked}
-use Rattle.route.proofs.Packing.{packOf, ReadBack}
+use Rattle.route.specs.Packing.{packOf, ReadBack}
 
 -- what the call leaves of a case's pack
 unfoldable pub called : View × Shown → Routed

@@ -17,3 +17,4 @@ pub mod MarkedCases
 pub mod WorkedForm
 pub mod WorkedLegs
 pub mod WorkedCases
+pub mod Packing

@@ -12,7 +12,8 @@ use borrow.Author.Tests.{lt-ltb, le-ltb, ltb-true, ltb-false}
 use lib.Dec.{ltb}
 use lib.ListN.{length, getD, set, length-append, length-replicate, List·getD-append}
 use lib.Seq.{ext-getD, getD-append-add, getD-set-same, getD-set-other}
-use Rattle.wire.specs.Zeros.{zeros, zeros-at}
+use Rattle.wire.specs.Zeros.{zeros}
+use Rattle.wire.proofs.Zeros.{zeros-at}
 use Rattle.pack.specs.Invocation.{Position, positionAt}
 use Rattle.subtrees.specs.Descendant.{descendant}
 use Rattle.subtrees.proofs.Blocks.{after}

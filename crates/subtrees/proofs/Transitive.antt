@@ -7,7 +7,7 @@ use Prim.Native.Nat.{ℕ}
 use native.Mathlib.Omega.{arith}
 use borrow.Author.Tests.{lt-ltb, ltb-true, eq-eqb, eqb-true}
 use lib.Dec.{ltb, eqb}
-use Rattle.wire.specs.Below.{and-left, and-right}
+use Rattle.wire.proofs.Below.{and-left, and-right}
 use Rattle.pack.specs.Invocation.{Position}
 use Rattle.subtrees.specs.Descendant.{higher, inners, descendant}
 use Rattle.subtrees.specs.Subtrees.{place, within}

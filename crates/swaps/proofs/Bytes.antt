@@ -11,7 +11,8 @@ use lib.Dec.{leb, eqb}
 use lib.ListN.{length, getD, take, drop, length-drop}
 use lib.Seq.{getD-take, getD-drop, take-all, length-take-le}
 use Rattle.wire.specs.Le.{le, leBytes}
-use Rattle.wire.specs.Same.{same, same-true, same-refl}
+use Rattle.wire.specs.Same.{same}
+use Rattle.wire.proofs.Same.{same-true, same-refl}
 use Rattle.wire.proofs.Laws.{le-back}
 use Rattle.swaps.specs.Discriminators.{eight}
 use Rattle.swaps.specs.Data.{is}

@@ -11,8 +11,9 @@ use lib.Dec.{eqb}
 use lib.ListN.{length, take, drop, set, length-append}
 use lib.Seq.{sets}
 use Rattle.wire.specs.Le.{leBytes}
-use Rattle.wire.specs.Same.{same, same-true}
-use Rattle.wire.specs.Sets.{sets-append, sets-whole}
+use Rattle.wire.specs.Same.{same}
+use Rattle.wire.proofs.Same.{same-true}
+use Rattle.wire.proofs.Sets.{sets-append, sets-whole}
 use Rattle.wire.proofs.Laws.{leBytes-length}
 use Rattle.ids.specs.declared.Id.{Id}
 use Rattle.ids.specs.Keys.{Key, zeroKey, isZero, keyOf, account}

@@ -11,7 +11,8 @@ use native.Mathlib.Omega.{arith}
 use lib.Dec.{ltb, leb, eqb}
 use lib.ListN.{length, getD, take}
 use borrow.Author.Tests.{lt-ltb, le-ltb, le-leb, eq-eqb, ne-eqb, eqb-true, ltb-true, leb-true, leb-false}
-use Rattle.wire.specs.Below.{allBelow, below-at, and-left, and-right}
+use Rattle.wire.specs.Below.{allBelow}
+use Rattle.wire.proofs.Below.{below-at, and-left, and-right}
 use Rattle.wire.specs.Same.{same}
 use Rattle.wire.specs.Zeros.{zeros}
 use Rattle.ids.specs.declared.Id.{Id}

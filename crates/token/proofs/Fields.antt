@@ -8,7 +8,7 @@ use native.Mathlib.Omega.{arith}
 use lib.ListN.{length, set, length-append}
 use lib.Seq.{sets}
 use Rattle.wire.proofs.Laws.{leBytes-length}
-use Rattle.wire.specs.Sets.{sets-next, sets-whole}
+use Rattle.wire.proofs.Sets.{sets-next, sets-whole}
 use Rattle.ids.specs.declared.Id.{Id}
 use Rattle.ids.specs.Keys.{Key, keyOf}
 use Rattle.ids.specs.Mints.{mintOf, mintField}

@@ -9,7 +9,7 @@ use native.Mathlib.Omega.{arith}
 use lib.Dec.{leb, eqb}
 use lib.ListN.{length}
 use borrow.Author.Tests.{lt-ltb, leb-true}
-use Rattle.wire.specs.Below.{and-right}
+use Rattle.wire.proofs.Below.{and-right}
 use Rattle.ids.specs.declared.Id.{Id}
 use Rattle.ids.specs.Keys.{Key, account}
 use Rattle.token.specs.Tokens.{initialises, checkedTransfer, feeTransfer, tokenOf}

@@ -9,7 +9,7 @@ use native.Mathlib.Decide.{ℕ-discrete}
 use lib.Dec.{leb, eqb}
 use lib.ListN.{length, getD}
 use borrow.Author.Tests.{ne-eqb, leb-true}
-use Rattle.wire.specs.Below.{and-right}
+use Rattle.wire.proofs.Below.{and-right}
 use Rattle.ids.specs.declared.Id.{Id}
 use Rattle.token.specs.Programs.{isToken, isToken2022}
 use Rattle.token.specs.Tokens.{initialises, plainTransfer, checkedTransfer, feeTransfer, plainAmount, checkedAmount, feeTransferAmount, feeTransferFee, tokenOf}

@@ -1,7 +1,7 @@
 use mathlib.Core.Path.{sym, _∙_}
 use native.Mathlib.Numerals.{add-one}
 use Rattle.ids.specs.Mints.{mintOf, mintField}
-use Rattle.wire.specs.Sets.{sets-past}
+use Rattle.wire.proofs.Sets.{sets-past}
 use borrow.Author.Needs.{needs}
 use Rattle.ids.proofs.put_mint.Statement.{statement}
 use Rattle.ids.proofs.put_mint.Tie as tie

@@ -3,7 +3,7 @@ use Rattle.ids.proofs.Rows.{found, found-zero, missed, led-below}
 use Rattle.ids.specs.Ids.{idAt}
 use Rattle.ids.specs.Which.{rowBy}
 use Rattle.ids.specs.Keys.{Key, zeroKey}
-use Rattle.wire.specs.Same.{same-true}
+use Rattle.wire.proofs.Same.{same-true}
 use mathlib.Core.Path.{_≡_, sym, ap, _∙_}
 use Prim.Native.Nat.{ℕ, _<_}
 use native.Mathlib.Omega.{arith}

@@ -2,7 +2,7 @@ use mathlib.Core.Path.{sym, _∙_}
 use mathlib.Core.Bool.{and-false}
 use mathlib.Core.List.{[], _∷_}
 use borrow.Author.Tests.{not-true, not-false}
-use Rattle.wire.specs.Same.{same-not-long, same-not-at}
+use Rattle.wire.proofs.Same.{same-not-long, same-not-at}
 use Rattle.natives.proofs.Forms.{alone}
 use borrow.Author.Needs.{needs}
 use Rattle.natives.proofs.lone.Statement.{statement}

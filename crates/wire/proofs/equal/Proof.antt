@@ -6,7 +6,8 @@ use mathlib.Core.List.{List}
 use Prim.Native.Nat.{ℕ, _-_, _≤_}
 use lib.ListN.{length, drop}
 use Rattle.wire.specs.Le.{le}
-use Rattle.wire.specs.Same.{same, same-ne, same-not-long, same-step}
+use Rattle.wire.specs.Same.{same}
+use Rattle.wire.proofs.Same.{same-ne, same-not-long, same-step}
 use Rattle.wire.proofs.Laws.{le-same}
 use Rattle.wire.proofs.equal.Statement.{statement}
 use Rattle.wire.proofs.equal.Tie as tie

@@ -7,7 +7,8 @@ use mathlib.Core.List.{[], _∷_}
 use Prim.Native.Nat.{ℕ, suc, _-_}
 use lib.ListN.{length, getD, drop, drop-of-length-le}
 use lib.Seq.{drop-cons}
-use Rattle.wire.specs.Same.{same, same-eq, same-not-at, same-step}
+use Rattle.wire.specs.Same.{same}
+use Rattle.wire.proofs.Same.{same-eq, same-not-at, same-step}
 use Rattle.wire.proofs.equal_rest.Statement.{statement}
 use Rattle.wire.proofs.equal_rest.Tie as tie
 use Rattle.wire.proofs.equal_rest.Reads as reads

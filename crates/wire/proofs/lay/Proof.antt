@@ -6,7 +6,7 @@ use mathlib.Core.Path.{_≡_, refl, _∙_}
 use Prim.Native.Nat.{_+_, _-_, _≤_}
 use lib.ListN.{length, drop, length-drop}
 use lib.Seq.{sets, length-sets, drop-drop}
-use Rattle.wire.specs.Sets.{sets-rest}
+use Rattle.wire.proofs.Sets.{sets-rest}
 use Rattle.wire.proofs.Laws.{le-back}
 use Rattle.wire.proofs.lay.Statement.{statement}
 use Rattle.wire.proofs.lay.Tie as tie

@@ -1,4 +1,4 @@
-use Rattle.wire.specs.Sets.{sets-past, sets-cut}
+use Rattle.wire.proofs.Sets.{sets-past, sets-cut}
 use lib.ListN.{length}
 use Prim.Native.Nat.{_-_}
 use mathlib.Core.Path.{sym}

@@ -1,6 +1,6 @@
 use mathlib.Core.Path.{sym}
 use native.Mathlib.Numerals.{add-one}
-use Rattle.wire.specs.Sets.{sets-past}
+use Rattle.wire.proofs.Sets.{sets-past}
 use Rattle.wire.specs.Le.{leBytes}
 use borrow.Author.Needs.{needs}
 use Rattle.wire.proofs.put_u16.Statement.{statement}

@@ -1,6 +1,6 @@
 use mathlib.Core.Path.{sym}
 use Rattle.wire.proofs.Laws.{leBytes-split, leBytes-low, leBytes-length}
-use Rattle.wire.specs.Sets.{sets-past, sets-append}
+use Rattle.wire.proofs.Sets.{sets-past, sets-append}
 use Rattle.wire.specs.Le.{leBytes}
 use borrow.Author.Needs.{needs}
 use Rattle.wire.proofs.put_u32.Statement.{statement}

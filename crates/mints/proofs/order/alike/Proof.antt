@@ -1,4 +1,4 @@
-use Rattle.wire.specs.Same.{same-true}
+use Rattle.wire.proofs.Same.{same-true}
 use lib.ListN.{take, drop}
 use native.Mathlib.Nat.{add-sub-cancel-left}
 use mathlib.Core.Bool.{false≢true}

@@ -1,6 +1,6 @@
 use Rattle.mints.proofs.Writing.{mints-length, mints-blank}
 use Rattle.mints.specs.Order.{mintOf, mintsTo}
-use Rattle.wire.specs.Sets.{sets-next}
+use Rattle.wire.proofs.Sets.{sets-next}
 use lib.Seq.{sets}
 use lib.ListN.{length, getD}
 use Prim.Native.Nat.{_*_, _-_, _≤_}

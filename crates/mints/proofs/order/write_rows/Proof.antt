@@ -1,7 +1,7 @@
 use Rattle.mints.proofs.Sorting.{fit-at}
 use Rattle.mints.proofs.Writing.{rows-length, rows-next, fits-take, row-put}
 use Rattle.mints.specs.Order.{rowBytes, rowsBytes}
-use Rattle.wire.specs.Sets.{sets-next}
+use Rattle.wire.proofs.Sets.{sets-next}
 use lib.Seq.{sets, length-take-le}
 use lib.ListN.{length, getD, take}
 use Prim.Native.Nat.{_*_, _-_, _≤_}

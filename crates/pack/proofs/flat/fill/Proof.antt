@@ -1,6 +1,7 @@
 -- The arrays hold what the chain walk asks for, since no refusal meets the pack.
 -- Assumes nothing.
-use Rattle.pack.specs.Layout.{keptAt, layout, spreadOf}
+use Rattle.pack.specs.Layout.{layout, spreadOf}
+use Rattle.pack.specs.Loops.{keptAt}
 use Rattle.pack.specs.Items.{outersAt}
 use Rattle.pack.proofs.Good.{passed}
 use Rattle.pack.proofs.Filled.{ends, groups-room, kept-room, chained, spread-room, laid-out}

@@ -1,6 +1,6 @@
 -- The test of the index, then that of the count.
 -- Assumes nothing.
-use Rattle.pack.specs.Layout.{keeps}
+use Rattle.pack.specs.Loops.{keeps}
 use Rattle.wire.specs.Le.{le}
 use native.Mathlib.Omega.{arith}
 use borrow.Author.Tests.{lt-ltb, le-ltb}

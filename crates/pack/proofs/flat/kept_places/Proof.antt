@@ -1,7 +1,7 @@
 -- Writing the remembered places that are left from here leaves what writing all of them leaves.
 -- Assumes nothing.
 use Rattle.pack.specs.Items.{groupEnd, groupsFrom, groupsFill}
-use Rattle.pack.specs.Layout.{keeps, keptFrom, keptAt}
+use Rattle.pack.specs.Loops.{keeps, keptFrom, keptAt}
 use Rattle.pack.proofs.Places.{sets-cons, Next, next-group, groups-nil, kept-cons, kept-skip}
 use Prim.Native.Nat.{ℕ, suc, _+_, _-_, _≤_, _<_}
 use native.Mathlib.Nat.{zero-add, add-zero}

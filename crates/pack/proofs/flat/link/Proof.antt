@@ -1,6 +1,6 @@
 -- Groups from place k on are chained: each holds the next of its outer instruction, and each outer instruction its first.
 -- Assumes nothing.
-use Rattle.pack.specs.Layout.{firstFrom, nextOf}
+use Rattle.pack.specs.Loops.{firstFrom, nextOf}
 use Rattle.pack.proofs.Chains.{first-step, next-step, lower, headed}
 use Rattle.wire.specs.Le.{le}
 use Prim.Native.Nat.{ℕ, _+_, _-_, _≤_, _<_}

@@ -2,7 +2,8 @@
 -- Assumes nothing.
 use Rattle.pack.specs.Invocation.{Position}
 use Rattle.pack.specs.Items.{groupsAt}
-use Rattle.pack.specs.Layout.{firstFrom, atOf, outerOf, innerOf, heightOf, Chained}
+use Rattle.pack.specs.Layout.{atOf, outerOf, innerOf, heightOf}
+use Rattle.pack.specs.Loops.{firstFrom, Chained}
 use Rattle.pack.proofs.Chains.{own, items, first-le, first-later, items-length, none-own, Found, found-at, ahead, nearer, wrote-more}
 use Rattle.wire.specs.Le.{le}
 use Rattle.pack.proofs.Places.{group-grows}

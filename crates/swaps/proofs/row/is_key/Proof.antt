@@ -4,7 +4,7 @@ use mathlib.Core.Path.{sym, ap, _∙_}
 use mathlib.Core.List.{List}
 use Prim.Native.Nat.{ℕ}
 use Rattle.wire.specs.Le.{le}
-use Rattle.wire.specs.Same.{same-ne}
+use Rattle.wire.proofs.Same.{same-ne}
 use borrow.Author.Needs.{needs}
 use Rattle.swaps.proofs.row.is_key.Statement.{statement}
 use Rattle.swaps.proofs.row.is_key.Tie as tie

@@ -1,5 +1,5 @@
 use Rattle.swaps.specs.Row.{endBytes}
-use Rattle.wire.specs.Sets.{sets-append, sets-past}
+use Rattle.wire.proofs.Sets.{sets-append, sets-past}
 use Rattle.wire.proofs.Laws.{leBytes-length}
 use lib.ListN.{length-append}
 use borrow.Author.Needs.{needs}

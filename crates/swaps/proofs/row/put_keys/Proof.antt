@@ -1,5 +1,5 @@
 use Rattle.swaps.specs.Row.{keyBytes}
-use Rattle.wire.specs.Sets.{sets-append, sets-past}
+use Rattle.wire.proofs.Sets.{sets-append, sets-past}
 use Rattle.ids.proofs.Keys.{key-length}
 use lib.ListN.{length-append}
 use borrow.Author.Needs.{needs}

@@ -2,7 +2,7 @@
 -- Assumes nothing.
 use mathlib.Core.Path.{refl, ap}
 use lib.Seq.{sets}
-use Rattle.wire.specs.Sets.{sets-past}
+use Rattle.wire.proofs.Sets.{sets-past}
 use Rattle.wire.specs.Zeros.{zeros}
 use Rattle.swaps.specs.Row.{poolsOf, legWidth}
 use Rattle.swaps.proofs.Rows.{row-in}

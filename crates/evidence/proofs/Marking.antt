@@ -4,7 +4,8 @@ use mathlib.Core.Logic.{_≢_}
 use mathlib.Core.Bool.{Bool, true, false, cond, _||_, and-false, or-true}
 use mathlib.Core.Option.{none, some}
 use mathlib.Core.List.{[], _∷_, _++_}
-use Rattle.wire.specs.Same.{same, same-eq, same-ne}
+use Rattle.wire.specs.Same.{same}
+use Rattle.wire.proofs.Same.{same-eq, same-ne}
 use Rattle.ids.specs.Keys.{Key}
 use Rattle.evidence.specs.Table.{Row, Table, lookup}
 use Rattle.evidence.specs.Passes.{Transfers}

@@ -7,13 +7,17 @@ use Prim.Native.Nat.{ℕ, _≤_}
 use native.Mathlib.Omega.{arith}
 use lib.ListN.{length}
 use Rattle.ids.specs.Keys.{Key, zeroKey}
-use Rattle.evidence.specs.Table.{Table, Has, has-not-lacks, add-cases}
-use Rattle.evidence.specs.Evidence.{Evidence, recorded, Noted, free, one, clash}
-use Rattle.evidence.specs.Recording.{recorded-noted}
-use Rattle.evidence.specs.Distinct.{distinct-recorded, covered-length, length-rows, mem-rows}
-use Rattle.evidence.specs.Passes.{Transfers, forth, back, Joined, joined, Grown, grown, grow}
+use Rattle.evidence.specs.Table.{Table, Has}
+use Rattle.evidence.proofs.Table.{has-not-lacks, add-cases}
+use Rattle.evidence.specs.Evidence.{Evidence, recorded}
+use Rattle.evidence.proofs.Evidence.{Noted, free, one, clash}
+use Rattle.evidence.proofs.Recording.{recorded-noted}
+use Rattle.evidence.proofs.Distinct.{distinct-recorded, covered-length, length-rows, mem-rows}
+use Rattle.evidence.specs.Passes.{Transfers, forth, back, Joined, joined}
+use Rattle.evidence.proofs.Passes.{Grown, grown, grow}
 use Rattle.evidence.specs.Run.{Outcome}
-use Rattle.evidence.specs.Infer.{infer, Settled, Inferred, short, infer-view, infer-settled, infer-passes, grown-distinct}
+use Rattle.evidence.specs.Infer.{infer}
+use Rattle.evidence.proofs.Infer.{Settled, Inferred, short, infer-view, infer-settled, infer-passes, grown-distinct}
 
 -- every account that occurs, but the zero key, is one of the keys of l
 pub record Among (l : List Key) (e : Evidence) (ps : Transfers) : Type 0 where

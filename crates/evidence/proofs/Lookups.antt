@@ -5,17 +5,21 @@ use mathlib.Core.Bool.{Bool, true, false, cond, _||_}
 use mathlib.Core.Option.{Option, none, some}
 use Prim.Native.Nat.{suc}
 use lib.ListN.{length}
-use Rattle.wire.specs.Same.{same, same-eq, same-ne}
+use Rattle.wire.specs.Same.{same}
+use Rattle.wire.proofs.Same.{same-eq, same-ne}
 use Rattle.ids.specs.Keys.{Key, zeroKey, isZero}
-use Rattle.evidence.specs.Keys.{key?}
-use Rattle.evidence.specs.Table.{Row, Table, add, lookup, Has, has-here, has-there, Found, at, nowhere, found, has-lookup, lacks-lookup, lookup-has, lookup-lacks, has-add, has-new, has-not-lacks, has-one, lacks-add}
+use Rattle.evidence.proofs.Keys.{key?}
+use Rattle.evidence.specs.Table.{Row, Table, add, lookup, Has, has-here, has-there}
+use Rattle.evidence.proofs.Table.{Found, at, nowhere, found, has-lookup, lacks-lookup, lookup-has, lookup-lacks, has-add, has-new, has-not-lacks, has-one, lacks-add}
 use Rattle.evidence.specs.Evidence.{Evidence, put, note}
-use Rattle.evidence.specs.Recording.{put-same, put-clash, put-new, put-other, put-other-lacks, note-valid, note-cases}
-use Rattle.evidence.specs.Distinct.{Distinct}
-use Rattle.evidence.specs.Passes.{Transfers, fill, spread, step, length-add}
-use Rattle.evidence.specs.Infer.{Settled}
-use Rattle.evidence.specs.Chains.{chain-account, rowed}
-use Rattle.evidence.specs.Final.{final, final-gives, gives-final}
+use Rattle.evidence.proofs.Recording.{put-same, put-clash, put-new, put-other, put-other-lacks, note-valid, note-cases}
+use Rattle.evidence.proofs.Distinct.{Distinct}
+use Rattle.evidence.specs.Passes.{Transfers, fill, spread, step}
+use Rattle.evidence.proofs.Passes.{length-add}
+use Rattle.evidence.proofs.Infer.{Settled}
+use Rattle.evidence.proofs.Chains.{chain-account, rowed}
+use Rattle.evidence.specs.Final.{final}
+use Rattle.evidence.proofs.Final.{final-gives, gives-final}
 
 -- the account of a row that is added
 pub add-here : (t : Table) (a m : Key) → lookup t a ≡ none → lookup (add t a m) a ≡ some m

@@ -8,17 +8,23 @@ use native.Mathlib.Omega.{arith}
 use lib.ListN.{length, length-map}
 use Rattle.ids.specs.Keys.{Key}
 use Rattle.evidence.specs.Table.{Table, SameMembers}
-use Rattle.evidence.specs.Evidence.{Evidence, recorded, One, Free, one-map}
+use Rattle.evidence.specs.Evidence.{Evidence, recorded, One, Free}
+use Rattle.evidence.proofs.Evidence.{one-map}
 use Rattle.evidence.specs.Passes.{Transfers}
 use Rattle.evidence.specs.Run.{Outcome}
-use Rattle.evidence.specs.Infer.{infer, Settled, infer-settled, infer-passes, infer-none, settled-distinct}
+use Rattle.evidence.specs.Infer.{infer}
+use Rattle.evidence.proofs.Infer.{Settled, infer-settled, infer-passes, infer-none, settled-distinct}
 use Rattle.evidence.specs.Chains.{Chain}
-use Rattle.evidence.specs.Ascending.{Ascending, ascending-once}
+use Rattle.evidence.specs.Ascending.{Ascending}
+use Rattle.evidence.proofs.Ascending.{ascending-once}
 use Rattle.evidence.specs.Final.{final}
-use Rattle.evidence.specs.Independence.{Apart, same-agree, same-room}
-use Rattle.evidence.specs.Bound.{Among, rows-bound, enough}
-use Rattle.evidence.specs.Marks.{Mark, mark-zero, mark-filled}
-use Rattle.evidence.specs.MintTable.{Answer, mintTable, rowAccounts, finish, mints, table-ascending, same-table-accounts, same-table, table-right, table-there, table-kept, table-sure}
+use Rattle.evidence.specs.Independence.{Apart}
+use Rattle.evidence.proofs.Independence.{same-agree, same-room}
+use Rattle.evidence.proofs.Bound.{Among, rows-bound, enough}
+use Rattle.evidence.specs.Marks.{Mark}
+use Rattle.evidence.proofs.Marks.{mark-zero, mark-filled}
+use Rattle.evidence.specs.MintTable.{Answer, mintTable, rowAccounts, finish, mints}
+use Rattle.evidence.proofs.MintTable.{table-ascending, same-table-accounts, same-table, table-right, table-there, table-kept, table-sure}
 
 -- how an answer is made: from a table with all evidence, to which no transfer hands on another mint
 pub record Made (e : Evidence) (ps : Transfers) (x : Answer) : Type 0 where

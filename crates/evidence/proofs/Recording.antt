@@ -3,11 +3,13 @@ use mathlib.Core.Path.{_≡_, refl, sym, _∙_, ap}
 use mathlib.Core.Logic.{_≢_, _⊎_, inl, inr, _↔_, ⊎-elim, by-cases}
 use mathlib.Core.Bool.{Bool, true, false, cond, _||_, or-true}
 use mathlib.Core.List.{[], _∷_, _++_, append-assoc, append-nil, List·Memᴰ, List·Memᴰ·head, List·Memᴰ·append-cases, List·Memᴰ·not-nil, List·Memᴰ·eq-of-singleton, Memᴰ·append-left, Memᴰ·append-right}
-use Rattle.wire.specs.Same.{same-eq, same-ne}
+use Rattle.wire.proofs.Same.{same-eq, same-ne}
 use Rattle.ids.specs.Keys.{Key, zeroKey, isZero}
-use Rattle.evidence.specs.Keys.{key?}
-use Rattle.evidence.specs.Table.{Row, Table, add, Has, has-here, has-there, Lacks, lacks-nil, lacks-cons, has-new, has-one, has-not-lacks, lookup, has-lookup, lacks-lookup}
-use Rattle.evidence.specs.Evidence.{Evidence, put, note, noteAll, recorded, Says, Free, One, Clash, Noted, free, one, clash, Agree, free-map, one-map, clash-map}
+use Rattle.evidence.proofs.Keys.{key?}
+use Rattle.evidence.specs.Table.{Row, Table, add, Has, has-here, has-there, Lacks, lacks-nil, lacks-cons, lookup}
+use Rattle.evidence.proofs.Table.{has-new, has-one, has-not-lacks, has-lookup, lacks-lookup}
+use Rattle.evidence.specs.Evidence.{Evidence, put, note, noteAll, recorded, Says, Free, One, Clash}
+use Rattle.evidence.proofs.Evidence.{Noted, free, one, clash, Agree, free-map, one-map, clash-map}
 
 module _ {a m : Key} where
   pub put-same : {t : Table} → Has a m t → put t a m ≡ t

@@ -5,13 +5,17 @@ use mathlib.Core.Option.{some}
 use mathlib.Core.List.{List, List·Memᴰ, Memᴰ·map, Memᴰ·of-map, Memᴰ·cast}
 use Prim.Native.Nat.{ℕ}
 use Rattle.ids.specs.Keys.{Key, zeroKey}
-use Rattle.evidence.specs.Table.{Table, lookup, has-lookup, lookup-has}
-use Rattle.evidence.specs.Distinct.{Distinct}
+use Rattle.evidence.specs.Table.{Table, lookup}
+use Rattle.evidence.proofs.Table.{has-lookup, lookup-has}
+use Rattle.evidence.proofs.Distinct.{Distinct}
 use Rattle.evidence.specs.Passes.{Transfers}
-use Rattle.evidence.specs.Ascending.{Ascending, ascending-unique}
-use Rattle.evidence.specs.Final.{final, final-has, has-final}
+use Rattle.evidence.specs.Ascending.{Ascending}
+use Rattle.evidence.proofs.Ascending.{ascending-unique}
+use Rattle.evidence.specs.Final.{final}
+use Rattle.evidence.proofs.Final.{final-has, has-final}
 use Rattle.evidence.specs.Marks.{markOf}
-use Rattle.evidence.specs.MintTable.{MintRow, withMark, mintTable, table-ascending}
+use Rattle.evidence.specs.MintTable.{MintRow, withMark, mintTable}
+use Rattle.evidence.proofs.MintTable.{table-ascending}
 
 -- l has a marked row for each mint that t gives, and no other: r what is recorded, t the table when the passes are over
 pub record Written (r : Table) (ps : Transfers) (t : Table) (l : List MintRow) : Type 0 where

@@ -5,12 +5,13 @@ use mathlib.Core.List.{List, [], _∷_, map, List·Memᴰ, List·Memᴰ·head, L
 use Prim.Native.Nat.{suc, _≤_}
 use native.Mathlib.Omega.{arith}
 use lib.ListN.{length, length-map}
-use Rattle.wire.specs.Same.{same-eq, same-ne}
+use Rattle.wire.proofs.Same.{same-eq, same-ne}
 use Rattle.ids.specs.Keys.{Key}
-use Rattle.evidence.specs.Keys.{key?}
-use Rattle.evidence.specs.Table.{Row, Table, add, Has, has-here, has-there, Lacks, lacks-nil, lacks-cons, lacks-add, has-not-lacks}
+use Rattle.evidence.proofs.Keys.{key?}
+use Rattle.evidence.specs.Table.{Row, Table, add, Has, has-here, has-there, Lacks, lacks-nil, lacks-cons}
+use Rattle.evidence.proofs.Table.{lacks-add, has-not-lacks}
 use Rattle.evidence.specs.Evidence.{Evidence, put, note, noteAll, recorded}
-use Rattle.evidence.specs.Recording.{put-other-lacks, note-cases}
+use Rattle.evidence.proofs.Recording.{put-other-lacks, note-cases}
 
 -- no two rows have one account
 pub data Distinct : Table → Type 0 where

@@ -1,0 +1,31 @@
+-- Why the order of the evidence decides nothing but which of several chains fills an account in. The steps to the theorem `alike` (Order):
+--   Recording            T1: the table says of each account what the evidence says
+--   Distinct             T2: no account twice; counting by accounts
+--   Chains               T3: `settled-sound`, T4: `complete`: the rows that passes add are those that chains reach
+--   Independence         T5: `same-recorded`, `same-room`, `same-final`
+--   Bound                T6: `enough`: the passes end
+-- Laws of a definition stand in the module of its name. For code: Lookups (what a search finds after each step), Loops (some items more, passes counted),
+-- Marking (marks transfer by transfer), Written (rows however they were sorted). The rule of the marks stands in Marks and Marking alone. Cases: worked cases.
+pub mod Keys
+pub mod Table
+pub mod Evidence
+pub mod Recording
+pub mod Distinct
+pub mod Passes
+pub mod Run
+pub mod Infer
+pub mod Chains
+pub mod Ascending
+pub mod Sorted
+pub mod Final
+pub mod Gather
+pub mod Independence
+pub mod Bound
+pub mod Marks
+pub mod MintTable
+pub mod Order
+pub mod Cases
+pub mod Lookups
+pub mod Loops
+pub mod Marking
+pub mod Written
