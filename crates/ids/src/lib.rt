@@ -11,7 +11,7 @@ ghost use Rattle.wire.specs.Same.{same};
 ghost use Rattle.ids.specs.Ids.{ids, idAt};
 ghost use Rattle.ids.specs.Keys.{keyAt, keyOf, keyCount};
 ghost use Rattle.ids.specs.Mints.{isMint, mintOf, mintField};
-ghost use Rattle.ids.specs.Which.{ofNumber, rowBy, rowFrom, which as whichOf, programAt};
+ghost use Rattle.ids.specs.Which.{ofNumber, rowBy, rowFrom};
 
 pub mod cases;
 
@@ -192,33 +192,4 @@ fn row_in(table: &[u8], key: &[u8]) -> u8
         return row;
     }
     15
-}
-
-// The same, with the table built once. Every goal of a function that names it carries all of it, so the search stands in one of its own.
-fn row_of(key: &[u8]) -> u8
-    ensures { λ r. ⌜ r ≡ rowFrom (now (key .entry)) 14 0 ⌝ }
-{
-    let table = IDS;
-    row_in(&table, key)
-}
-
-// Which program a key is.
-pub fn which(key: &[u8]) -> Id
-    ensures { λ r. ⌜ r ≡ whichOf (now (key .entry)) ⌝ }
-{
-    of_number(row_of(key))
-}
-
-// Which program the key of row `index` is: resolved only in range with flag 1.
-pub fn program(keys: &[u8], index: usize) -> Id
-    ensures { λ r. ⌜ r ≡ programAt (now (keys .entry)) index ⌝ }
-{
-    if keys.len() / 33 <= index {
-        return Id::Unresolved;
-    }
-    let at = index * 33;
-    if keys[at] != 1 {
-        return Id::Unresolved;
-    }
-    which(&keys[at + 1..at + 33])
 }

@@ -5,7 +5,7 @@ ghost use lib.ListN.{length};
 ghost use Rattle.pack.specs.Sections.{startOf, sectionOf, marked as markedOf, ordered as orderedOf};
 
 // Whether the pack has a size that is taken, and the mark at its end.
-pub fn marked(pack: &[u8]) -> bool
+pub(crate) fn marked(pack: &[u8]) -> bool
     ensures { λ r. ⌜ r ≡ markedOf (now (pack .entry)) ⌝ }
 {
     if pack.len() < 24 {
@@ -29,7 +29,7 @@ fn trailer_at(pack: &[u8]) -> usize
 }
 
 // Where section k starts; the trailer's place for k above 4.
-pub fn start(pack: &[u8], k: usize) -> usize
+pub(crate) fn start(pack: &[u8], k: usize) -> usize
     ensures { λ r. ⌜ r ≡ startOf (now (pack .entry)) k ⌝ }
 {
     let t = trailer_at(pack);
@@ -41,7 +41,7 @@ pub fn start(pack: &[u8], k: usize) -> usize
 }
 
 // Whether the starts begin with 0, never fall, and stay before the trailer.
-pub fn ordered(pack: &[u8]) -> bool
+pub(crate) fn ordered(pack: &[u8]) -> bool
     ensures { λ r. ⌜ r ≡ orderedOf (now (pack .entry)) ⌝ }
 {
     if start(pack, 0) != 0 {

@@ -24,7 +24,7 @@ pub enum Walk {
 }
 
 // Section 0: rows of 33 bytes, the first of each a flag.
-pub fn keys(s: &[u8]) -> bool
+pub(crate) fn keys(s: &[u8]) -> bool
     ensures { λ r. ⌜ r ≡ keysFill (now (s .entry)) ⌝ }
 {
     if s.len() % 33 != 0 {
@@ -42,7 +42,7 @@ pub fn keys(s: &[u8]) -> bool
 }
 
 // Section 2: instructions.
-pub fn outers(s: &[u8]) -> Count
+pub(crate) fn outers(s: &[u8]) -> Count
     ensures { λ r. ⌜ r ≡ cond (outersWhole (now (s .entry))) (Of (length (outerIn (now (s .entry))))) Broken ⌝ }
 {
     let mut at = 0;
@@ -109,7 +109,7 @@ fn kept(s: &[u8], at: usize, o: usize, n: usize) -> usize
 }
 
 // Section 3: groups; how many instructions those hold that name one of the o outer instructions.
-pub fn groups(s: &[u8], o: usize) -> Count
+pub(crate) fn groups(s: &[u8], o: usize) -> Count
     ensures { λ r. ⌜ r ≡ cond (groupsWhole (now (s .entry))) (Of (keptIn o (groupsIn (now (s .entry))))) Broken ⌝ }
 {
     let mut at = 0;

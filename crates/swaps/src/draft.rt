@@ -4,7 +4,7 @@ ghost use mathlib.Core.Path.{_≡_};
 ghost use Rattle.swaps.specs.Draft.{plain as plainOf, stated as statedOf, pairing as pairingOf, pairBy, inMode};
 
 // A leg with no explicit pair of mints and no mode.
-pub fn plain(
+pub(crate) fn plain(
     protocol: u8,
     pool: u8,
     trader: u8,
@@ -33,7 +33,7 @@ pub fn plain(
 }
 
 // The same where exact-out exchanges the two numbers.
-pub fn stated(
+pub(crate) fn stated(
     protocol: u8,
     pool: u8,
     trader: u8,
@@ -53,7 +53,7 @@ pub fn stated(
 }
 
 // With an explicit pair of mints.
-pub fn pairing(s: Swap, x: u8, y: u8) -> Swap
+pub(crate) fn pairing(s: Swap, x: u8, y: u8) -> Swap
     ensures { λ r. ⌜ r ≡ pairingOf s x y ⌝ }
 {
     Swap {
@@ -73,7 +73,7 @@ pub fn pairing(s: Swap, x: u8, y: u8) -> Swap
 }
 
 // With one pair, or the same exchanged.
-pub fn pair_by(test: bool, x: u8, y: u8, s: Swap) -> Swap
+pub(crate) fn pair_by(test: bool, x: u8, y: u8, s: Swap) -> Swap
     ensures { λ r. ⌜ r ≡ pairBy test x y s ⌝ }
 {
     if test {
@@ -84,7 +84,7 @@ pub fn pair_by(test: bool, x: u8, y: u8, s: Swap) -> Swap
 }
 
 // With a mode.
-pub fn in_mode(mode: u8, s: Swap) -> Swap
+pub(crate) fn in_mode(mode: u8, s: Swap) -> Swap
     ensures { λ r. ⌜ r ≡ inMode mode s ⌝ }
 {
     Swap {

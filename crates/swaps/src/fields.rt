@@ -8,7 +8,7 @@ ghost use Rattle.ids.specs.Keys.{keyAt, keyOf, account as accountOf};
 ghost use Rattle.swaps.specs.Data.{is as isOf, isFlag, flag as flagOf};
 
 // Whether the first eight bytes are there, and are `disc`.
-pub fn is(data: &[u8], disc: u64) -> bool
+pub(crate) fn is(data: &[u8], disc: u64) -> bool
     ensures { λ r. ⌜ r ≡ isOf (now («data» .entry)) disc ⌝ }
 {
     if data.len() < 8 {
@@ -18,7 +18,7 @@ pub fn is(data: &[u8], disc: u64) -> bool
 }
 
 // Whether they are one of two discriminators.
-pub fn is_either(data: &[u8], x: u64, y: u64) -> bool
+pub(crate) fn is_either(data: &[u8], x: u64, y: u64) -> bool
     ensures { λ r. ⌜ r ≡ (isOf (now («data» .entry)) x || isOf (now («data» .entry)) y) ⌝ }
 {
     if is(data, x) {
@@ -28,7 +28,7 @@ pub fn is_either(data: &[u8], x: u64, y: u64) -> bool
 }
 
 // Whether the byte at `at` is there, and is 0 or 1.
-pub fn is_flag(data: &[u8], at: usize) -> bool
+pub(crate) fn is_flag(data: &[u8], at: usize) -> bool
     ensures { λ r. ⌜ r ≡ isFlag (now («data» .entry)) at ⌝ }
 {
     if data.len() <= at {
@@ -38,14 +38,19 @@ pub fn is_flag(data: &[u8], at: usize) -> bool
 }
 
 // Whether it is 1.
-pub fn flag(data: &[u8], at: usize) -> bool
+pub(crate) fn flag(data: &[u8], at: usize) -> bool
     ensures { λ r. ⌜ r ≡ flagOf (now («data» .entry)) at ⌝ }
 {
     wire::byte(data, at) == 1
 }
 
 // The key of an instruction's account, or the stand-in.
-pub fn account<'a>(keys: &'a [u8], blank: &'a [u8], accounts: &[u8], place: usize) -> &'a [u8]
+pub(crate) fn account<'a>(
+    keys: &'a [u8],
+    blank: &'a [u8],
+    accounts: &[u8],
+    place: usize,
+) -> &'a [u8]
     ensures { λ r. ⌜ now r ≡ cond (ltb place (length (now (accounts .entry)))) (keyAt (now (keys .entry)) (now (blank .entry)) (getD (now (accounts .entry)) place 0)) (now (blank .entry)) ⌝ }
 {
     if place < accounts.len() {
@@ -56,7 +61,7 @@ pub fn account<'a>(keys: &'a [u8], blank: &'a [u8], accounts: &[u8], place: usiz
 }
 
 // Whether two accounts of an instruction are one key.
-pub fn same_account(keys: &[u8], accounts: &[u8], x: usize, y: usize) -> bool
+pub(crate) fn same_account(keys: &[u8], accounts: &[u8], x: usize, y: usize) -> bool
     ensures { λ r. ⌜ r ≡ same (accountOf (keyOf (now (keys .entry))) (now (accounts .entry)) x) (accountOf (keyOf (now (keys .entry))) (now (accounts .entry)) y) ⌝ }
 {
     let blank = [0u8; 32];
@@ -67,7 +72,7 @@ pub fn same_account(keys: &[u8], accounts: &[u8], x: usize, y: usize) -> bool
 }
 
 // One account or the other.
-pub fn choose(test: bool, x: u8, y: u8) -> u8
+pub(crate) fn choose(test: bool, x: u8, y: u8) -> u8
     ensures { λ r. ⌜ r ≡ cond test x y ⌝ }
 {
     if test { x } else { y }

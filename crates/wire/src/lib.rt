@@ -95,7 +95,7 @@ pub fn put_byte(d: &mut [u8], at: usize, x: u8)
     }
 }
 
-pub fn put_u16(d: &mut [u8], at: usize, x: u16)
+fn put_u16(d: &mut [u8], at: usize, x: u16)
     ensures { λ _. ⌜ now (d .exit) ≡ sets (now (d .entry)) at (leBytes 2 x) ⌝ }
 {
     if d.len() <= at {
