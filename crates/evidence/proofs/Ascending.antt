@@ -1,4 +1,4 @@
--- A list that ascends by a key is told by its members, whoever sorted it. Assumes nothing.
+-- A list that ascends by a key is told by its members, whoever sorted it: the least member has to stand first in both. Assumes nothing.
 use mathlib.Core.Path.{_≡_, refl, sym, _∙_, ap, ap₂, subst}
 use mathlib.Core.Logic.{_⊎_, inl, inr, ⊎-map}
 use mathlib.Core.List.{List, [], _∷_, _++_, map, List·Memᴰ, List·Memᴰ·head, List·Memᴰ·tail, List·Memᴰ·cases-cons, List·Memᴰ·not-nil, Memᴰ·of-map}

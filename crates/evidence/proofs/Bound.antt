@@ -10,12 +10,12 @@ use Rattle.ids.specs.Keys.{Key, zeroKey}
 use Rattle.evidence.specs.Table.{Table, Has}
 use Rattle.evidence.proofs.Table.{has-not-lacks, add-cases}
 use Rattle.evidence.specs.Evidence.{Evidence, recorded}
-use Rattle.evidence.proofs.Evidence.{Noted, free, one, clash}
+use Rattle.evidence.proofs.Evidence.{NotedAs, free, one, clash}
 use Rattle.evidence.proofs.Recording.{recorded-noted}
 use Rattle.evidence.proofs.Distinct.{distinct-recorded, covered-length, length-rows, mem-rows}
 use Rattle.evidence.specs.Passes.{Transfers, forth, back, Joined, joined}
 use Rattle.evidence.proofs.Passes.{Grown, grown, grow}
-use Rattle.evidence.specs.Run.{Outcome}
+use Rattle.evidence.specs.Run.{TableAfter}
 use Rattle.evidence.specs.Infer.{infer}
 use Rattle.evidence.proofs.Infer.{Settled, Inferred, short, infer-view, infer-settled, infer-passes, grown-distinct}
 
@@ -37,7 +37,7 @@ module _ {l : List Key} {e : Evidence} {ps : Transfers} (h : Among l e ps) where
   recorded-within : Within l (recorded e)
   recorded-within = record { within = λ {a} i. go (recorded-noted e a) i }
     where
-      go : {a m : Key} {t : Table} → Noted e a t → Has a m t → List·Memᴰ a l
+      go : {a m : Key} {t : Table} → NotedAs e a t → Has a m t → List·Memᴰ a l
       go (free _ k) i = absurd (has-not-lacks i k)
       go (one o _) i = h .evidence (o .says .piece) (o .says .account)
       go (clash c _) i = h .evidence (c .says .piece) (c .says .account)
@@ -50,9 +50,6 @@ module _ {l : List Key} {e : Evidence} {ps : Transfers} (h : Among l e ps) where
       go (inl k) = w .within k
       go (inr q) = Memᴰ·cast (q .0) (joined-among j (i .target))
 
-  pub settled-within : {t : Table} → Settled e ps t → Within l t
-  settled-within s = grown-within (s .grows) recorded-within
-
   -- a table that passes make has no more rows than there are keys
   pub rows-bound : {t : Table} → Grown ps t (recorded e) → length t ≤ length l
   rows-bound {t} g =
@@ -63,6 +60,6 @@ module _ {l : List Key} {e : Evidence} {ps : Transfers} (h : Among l e ps) where
   pub enough : (f : ℕ) → length l ≤ f → (t : Table) × (n : ℕ) × (infer f e ps ≡ some (t, n)) × Settled e ps t × (n ≤ length l)
   enough f k = go (infer f e ps) refl (infer-view f e ps)
     where
-      go : (o : Option Outcome) → infer f e ps ≡ o → Inferred e ps f o → (t : Table) × (n : ℕ) × (infer f e ps ≡ some (t, n)) × Settled e ps t × (n ≤ length l)
+      go : (o : Option TableAfter) → infer f e ps ≡ o → Inferred e ps f o → (t : Table) × (n : ℕ) × (infer f e ps ≡ some (t, n)) × Settled e ps t × (n ≤ length l)
       go (some r) q _ = let s = infer-settled f e ps q in (r .0, r .1, q, s, omega (arith, infer-passes f e ps q, rows-bound (s .grows)))
       go none q (short g b) = absurd (omega (arith, rows-bound g))

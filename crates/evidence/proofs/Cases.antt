@@ -1,4 +1,4 @@
--- Worked cases of the definitions. Assumes nothing.
+-- Worked cases of the definitions: each is computed. Assumes nothing.
 use mathlib.Core.Path.{_≡_, refl}
 use mathlib.Core.Option.{some}
 use mathlib.Core.List.{List, [], _∷_, _++_, map}
@@ -10,16 +10,16 @@ use Rattle.evidence.specs.Keys.{ltKey}
 use Rattle.evidence.specs.Table.{lookup}
 use Rattle.evidence.specs.Evidence.{Evidence, put, note, noteAll, recorded}
 use Rattle.evidence.specs.Passes.{Transfers, fill, spread, step, pass}
-use Rattle.evidence.specs.Run.{counted, run}
+use Rattle.evidence.specs.Run.{onceMore, run}
 use Rattle.evidence.specs.Infer.{runFrom, infer}
 use Rattle.evidence.specs.Sorted.{insert, sort}
 use Rattle.evidence.specs.Final.{clean, final}
 use Rattle.evidence.specs.Marks.{absent, differ, opposes, opposed, markOf}
-use Rattle.evidence.specs.MintTable.{Answer, mintTable, finish, mints}
+use Rattle.evidence.specs.MintTable.{MintAnswer, mintTable, finish, mints}
 
 -- evidence, plain transfers, and the answer that they have
 abbrev pub Case : Type 0
-Case = Evidence × Transfers × Answer
+Case = Evidence × Transfers × MintAnswer
 
 -- the key of one byte, 32 times
 unfoldable key : ℕ → Key
@@ -37,19 +37,19 @@ two = (key 1, key 8) ∷ (key 2, key 9) ∷ []
 unfoldable clash : Evidence
 clash = (key 2, key 8) ∷ (key 2, key 9) ∷ []
 
-unfoldable nothing : Answer
+unfoldable nothing : MintAnswer
 nothing = record { rows = []; room = 0; passes = 0 }
 
 -- A alone
-unfoldable alone : Answer
+unfoldable alone : MintAnswer
 alone = record { rows = (key 1, key 8, 0) ∷ []; room = 1; passes = 1 }
 
 -- C (3) and D (4) filled in from A
-unfoldable chain : ℕ → Answer
+unfoldable chain : ℕ → MintAnswer
 chain n = record { rows = (key 1, key 8, 0) ∷ (key 3, key 8, 1) ∷ (key 4, key 8, 1) ∷ []; room = 3; passes = n }
 
 -- an ambiguous account alone: room, but no row
-unfoldable ambiguous : Answer
+unfoldable ambiguous : MintAnswer
 ambiguous = record { rows = []; room = 1; passes = 1 }
 
 pub cases : List Case
@@ -85,5 +85,5 @@ cases =
 
 -- every case has its answer
 pub worked : map (λ c. mints 512 (c .0) (c .1)) cases ≡ map (λ c. some (c .2)) cases
-unfolding cases key one two clash nothing alone chain ambiguous zeroKey same ltKey lookup put note noteAll recorded fill spread step pass counted run runFrom infer clean insert sort final absent differ opposes opposed markOf mintTable finish mints
+unfolding cases key one two clash nothing alone chain ambiguous zeroKey same ltKey lookup put note noteAll recorded fill spread step pass onceMore run runFrom infer clean insert sort final absent differ opposes opposed markOf mintTable finish mints
 worked = refl

@@ -1,4 +1,5 @@
--- Chains: the rows that passes add are those that chains reach (T3, T4). Assumes nothing.
+-- Chains: the rows that passes add are those that chains reach (T3, T4), since a row is added by a transfer from one that is there, and a last pass that adds
+-- nothing has followed all. Assumes nothing.
 use mathlib.Core.Path.{_≡_, sym}
 use mathlib.Core.Logic.{_≢_, _⊎_, inl, inr, _↔_, ⊎-elim, by-cases}
 use Rattle.ids.specs.Keys.{Key, zeroKey}

@@ -1,4 +1,5 @@
--- Tables with no two rows for one account: recording keeps them so, and they are counted by their accounts. Assumes nothing.
+-- Tables with no two rows for one account: recording keeps them so, because it adds a row only where the search finds none, and they are counted by their
+-- accounts. Assumes nothing.
 use mathlib.Core.Path.{_≡_, refl, sym, _∙_, ap}
 use mathlib.Core.Logic.{_≢_, by-cases}
 use mathlib.Core.List.{List, [], _∷_, map, List·Memᴰ, List·Memᴰ·head, List·Memᴰ·tail}

@@ -1,13 +1,13 @@
--- Evidence that says the same of an account leaves it free, with one mint, or with two. Assumes nothing.
+-- Evidence that says the same of an account leaves it free, with one mint, or with two, because each of these is said by members alone. Assumes nothing.
 use Rattle.ids.specs.Keys.{Key, zeroKey}
 use Rattle.evidence.specs.Table.{Table, Has, Lacks}
 use Rattle.evidence.specs.Evidence.{Clash, Evidence, Free, One, Says}
 
 -- what the table says of a is what the evidence says
-pub data Noted (e : Evidence) (a : Key) (t : Table) : Type 0 where
-  free : Free e a → Lacks a t → Noted e a t
-  one : {m : Key} → One e a m → Has a m t → Noted e a t
-  clash : Clash e a → Has a zeroKey t → Noted e a t
+pub data NotedAs (e : Evidence) (a : Key) (t : Table) : Type 0 where
+  free : Free e a → Lacks a t → NotedAs e a t
+  one : {m : Key} → One e a m → Has a m t → NotedAs e a t
+  clash : Clash e a → Has a zeroKey t → NotedAs e a t
 
 -- e′ says of a just what e says
 pub record Agree (e e′ : Evidence) (a : Key) : Type 0 where

@@ -1,4 +1,5 @@
--- What the final table keeps: every row with a mint, sorted, and nothing else. Assumes nothing.
+-- What the final table keeps: every row with a mint, sorted, and nothing else, since sorting keeps the members and an ambiguous row is left out. Assumes
+-- nothing.
 use mathlib.Core.Path.{_≡_, sym, _∙_, ap}
 use mathlib.Core.Logic.{_≢_, by-cases}
 use mathlib.Core.List.{[], _∷_, List·Memᴰ, List·Memᴰ·head, List·Memᴰ·tail, List·Memᴰ·not-nil}

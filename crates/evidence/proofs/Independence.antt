@@ -1,4 +1,5 @@
--- Two inputs with the same evidence and the same plain transfers, in any order (T5). Assumes nothing.
+-- Two inputs with the same evidence and the same plain transfers, in any order (T5): what is recorded and which chains there are is said by members, and the
+-- table follows from these. Assumes nothing.
 use mathlib.Core.Path.{_≡_, sym}
 use mathlib.Core.Logic.{_≢_, _⊎_, inl, inr, ⊎-elim, by-cases}
 use native.Mathlib.Omega.{arith}

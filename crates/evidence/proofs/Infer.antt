@@ -1,4 +1,5 @@
--- The table of all evidence and all plain transfers has what is recorded, grew by transfers, and grows no more. Assumes nothing.
+-- The table of all evidence and all plain transfers has what is recorded, grew by transfers, and grows no more, because the run ends with a pass that adds
+-- nothing. Assumes nothing.
 use mathlib.Core.Path.{_≡_, refl}
 use mathlib.Core.Logic.{_↔_}
 use mathlib.Core.Option.{Option, none, some}
@@ -12,10 +13,10 @@ use Rattle.evidence.specs.Table.{Row, Table, add}
 use Rattle.evidence.specs.Evidence.{Evidence, recorded}
 use Rattle.evidence.proofs.Distinct.{Distinct, distinct-add, distinct-recorded}
 use Rattle.evidence.specs.Passes.{Transfers, pass, Joined, joined}
-use Rattle.evidence.proofs.Passes.{Hands, Stuck, Stepped, handed, still, step-view, Grown, grown, grown-trans, grown-length, Closed, grow, pass-grown, length-add}
-use Rattle.evidence.specs.Run.{Outcome}
-use Rattle.evidence.proofs.Run.{Passed, at-end, one-more, Ran, RunEnds, gave, spent, run-ends, ran-passed, ran-still, ran-length, ran-positive}
-use Rattle.evidence.specs.Infer.{infer, passes, runFrom}
+use Rattle.evidence.proofs.Passes.{Hands, Stuck, SteppedTo, handed, still, step-view, Grown, grown, grown-trans, grown-length, Closed, grow, pass-grown, length-add}
+use Rattle.evidence.specs.Run.{TableAfter}
+use Rattle.evidence.proofs.Run.{Passed, at-end, one-more, RanTo, RunEnds, gave, spent, run-ends, ran-passed, ran-still, ran-length, ran-positive}
+use Rattle.evidence.specs.Infer.{infer, passOver, runFrom}
 
 -- a pass that adds no row finds no mint to hand on, and leaves the table as it is
 pub pass-still : (t : Table) (ps : Transfers) → length (pass t ps) ≡ length t → Closed ps t × (pass t ps ≡ t)
@@ -30,11 +31,11 @@ pass-still t (p ∷ ps) h = go (step-view t p) (λ u. pass-still u ps) h
     more s c (joined x (List·Memᴰ·head e)) i = s .stuck (rw e at x) i
     more s c (joined x (List·Memᴰ·tail k)) i = c .closed (joined x k) i
 
-    go : {u : Table} → Stepped t p u → ((u : Table) → length (pass u ps) ≡ length u → Closed ps u × (pass u ps ≡ u)) → length (pass u ps) ≡ length t → Closed (p ∷ ps) t × (pass u ps ≡ t)
+    go : {u : Table} → SteppedTo t p u → ((u : Table) → length (pass u ps) ≡ length u → Closed ps u × (pass u ps ≡ u)) → length (pass u ps) ≡ length t → Closed (p ∷ ps) t × (pass u ps ≡ t)
     go (handed {b} {m} x i) below h = absurd (omega (arith, grown-length (pass-grown {ps = ps} (add t b m)), length-add t b m))
     go (still s) below h = (record { closed = λ j i. more s ((below t h) .0) j i }, (below t h) .1)
 
-pub passed-grown : {ps : Transfers} {t u : Table} → Passed (passes ps) u t → Grown ps u t
+pub passed-grown : {ps : Transfers} {t u : Table} → Passed (passOver ps) u t → Grown ps u t
 passed-grown at-end = grown
 passed-grown (one-more {t} p) = grown-trans (pass-grown t) (passed-grown p)
 
@@ -44,16 +45,16 @@ pub record Settled (e : Evidence) (ps : Transfers) (t : Table) : Type 0 where
   pub done : Closed ps t
 
 -- what an inference answers: nothing recorded and no pass, or the passes that were made, or a table with more rows than fuel
-pub data Inferred (e : Evidence) (ps : Transfers) (f : ℕ) : Option Outcome → Type 0 where
+pub data Inferred (e : Evidence) (ps : Transfers) (f : ℕ) : Option TableAfter → Type 0 where
   nothing : recorded e ≡ [] → Inferred e ps f (some ([], 0))
-  ran : {t : Table} {n : ℕ} → 0 < length (recorded e) → Ran (passes ps) t (recorded e) n → Inferred e ps f (some (t, n))
+  ran : {t : Table} {n : ℕ} → 0 < length (recorded e) → RanTo (passOver ps) t (recorded e) n → Inferred e ps f (some (t, n))
   short : {t : Table} → Grown ps t (recorded e) → f < length t → Inferred e ps f none
 
 pub infer-view : (f : ℕ) (e : Evidence) (ps : Transfers) → Inferred e ps f (infer f e ps)
 unfolding infer runFrom
 infer-view f e ps = go (recorded e) refl
   where
-    runs : {t : Table} {r : Row} {o : Option Outcome} → recorded e ≡ r ∷ t → RunEnds (passes ps) (r ∷ t) f o → Inferred e ps f o
+    runs : {t : Table} {r : Row} {o : Option TableAfter} → recorded e ≡ r ∷ t → RunEnds (passOver ps) (r ∷ t) f o → Inferred e ps f o
     runs q (gave {u} {n} k) = ran {t = u} {n = n} (rw q (omega arith)) (rw q k)
     runs q (spent {u} g l) = short {t = u} (rw q (passed-grown g)) (omega arith)
 
@@ -62,7 +63,7 @@ infer-view f e ps = go (recorded e) refl
     go (r ∷ t) q = runs q (run-ends (λ u. grown-length (pass-grown {ps = ps} u)) f (r ∷ t))
 
 -- passes until one adds nothing leave no mint to hand on
-ran-settled : {e : Evidence} {ps : Transfers} {t : Table} {n : ℕ} → Ran (passes ps) t (recorded e) n → Settled e ps t
+ran-settled : {e : Evidence} {ps : Transfers} {t : Table} {n : ℕ} → RanTo (passOver ps) t (recorded e) n → Settled e ps t
 ran-settled {ps} {t} k = record { grows = passed-grown (ran-passed k); done = (pass-still t ps (ran-still k)) .0 }
 
 -- where nothing is recorded, nothing is handed on

@@ -1,4 +1,4 @@
--- The decision between two keys, and the laws of their order. Assumes nothing.
+-- The decision between two keys, and the laws of their order, which the first number that differs decides. Assumes nothing.
 use mathlib.Core.Path.{_≡_, refl, sym, _∙_, ap₂}
 use mathlib.Core.Logic.{_≢_}
 use mathlib.Core.Bool.{true, false, false≢true, or-true, and-false}

@@ -1,4 +1,5 @@
--- For a program that knows what a search finds for each key: what it finds after one piece of evidence, one transfer, and in the final table. Assumes nothing.
+-- For a program that knows what a search finds for each key: what it finds after one piece of evidence, one transfer, and in the final table; each changes
+-- the row of one account alone. Assumes nothing.
 use mathlib.Core.Path.{_≡_, refl, _∙_, ap}
 use mathlib.Core.Logic.{_≢_, by-cases, ⊎-elim}
 use mathlib.Core.Bool.{Bool, true, false, cond, _||_}

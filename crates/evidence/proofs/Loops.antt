@@ -1,4 +1,4 @@
--- For the loops of a program: the state after some items more, and passes counted one by one. Assumes nothing.
+-- For the loops of a program: the state after some items more, and passes counted one by one, because each definition goes item by item. Assumes nothing.
 use mathlib.Core.Path.{_≡_, refl, sym, _∙_, ap}
 use mathlib.Core.Logic.{_≢_}
 use mathlib.Core.Option.{Option, none, some}
@@ -11,8 +11,8 @@ use borrow.Author.Tests.{eq-eqb, ne-eqb}
 use Rattle.evidence.specs.Table.{Row, Table}
 use Rattle.evidence.specs.Evidence.{Evidence, note, noteAll, recorded}
 use Rattle.evidence.specs.Passes.{Transfers, step, pass}
-use Rattle.evidence.specs.Run.{Outcome, counted, run}
-use Rattle.evidence.specs.Infer.{passes, runFrom, infer}
+use Rattle.evidence.specs.Run.{TableAfter, onceMore, run}
+use Rattle.evidence.specs.Infer.{passOver, runFrom, infer}
 use Rattle.evidence.specs.Gather.{gather}
 use Rattle.evidence.specs.MintTable.{mintTable, finish, mints}
 
@@ -33,26 +33,22 @@ unfolding noteAll
 noteAll-append t [] e = refl
 noteAll-append t (x ∷ d) e = noteAll-append (note t x) d e
 
-pub recorded-append : (d e : Evidence) → recorded (d ++ e) ≡ noteAll (recorded d) e
-unfolding recorded
-recorded-append d e = noteAll-append [] d e
-
 pub pass-append : (t : Table) (ps qs : Transfers) → pass t (ps ++ qs) ≡ pass (pass t ps) qs
 unfolding pass
 pass-append t [] qs = refl
 pass-append t (p ∷ ps) qs = pass-append (step t p) ps qs
 
 -- k passes more
-unfoldable pub plus : ℕ → Option Outcome → Option Outcome
+unfoldable pub plus : ℕ → Option TableAfter → Option TableAfter
 plus k none = none
 plus k (some r) = some (r .0, k + r .1)
 
-plus-counted : (k : ℕ) (o : Option Outcome) → plus k (counted o) ≡ plus (suc k) o
-unfolding plus counted
+plus-counted : (k : ℕ) (o : Option TableAfter) → plus k (onceMore o) ≡ plus (suc k) o
+unfolding plus onceMore
 plus-counted k none = refl
 plus-counted k (some r) = ap (λ (n : ℕ). some (r .0, n)) (omega arith)
 
-plus-zero : (o : Option Outcome) → plus 0 o ≡ o
+plus-zero : (o : Option TableAfter) → plus 0 o ≡ o
 unfolding plus
 plus-zero none = refl
 plus-zero (some r) = ap (λ (n : ℕ). some (r .0, n)) (omega arith)
@@ -88,11 +84,11 @@ infer-empty f e ps q = go (recorded e) q
     go [] h = refl
     go (r ∷ t) h = absurd (omega arith)
 
-pub infer-run : (f : ℕ) (e : Evidence) (ps : Transfers) → 0 < length (recorded e) → infer f e ps ≡ run f (passes ps) (recorded e)
+pub infer-run : (f : ℕ) (e : Evidence) (ps : Transfers) → 0 < length (recorded e) → infer f e ps ≡ run f (passOver ps) (recorded e)
 unfolding infer runFrom
 infer-run f e ps q = go (recorded e) q
   where
-    go : (t : Table) → 0 < length t → runFrom f t ps ≡ run f (passes ps) t
+    go : (t : Table) → 0 < length t → runFrom f t ps ≡ run f (passOver ps) t
     go [] h = absurd (omega arith)
     go (r ∷ t) h = refl
 

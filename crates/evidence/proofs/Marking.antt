@@ -1,4 +1,5 @@
--- For a program that marks transfer by transfer: whom a transfer opposes, and the mark by what is known of an account. Assumes nothing.
+-- For a program that marks transfer by transfer: whom a transfer opposes, and the mark by what is known of an account, as the tests of the definitions come
+-- out. Assumes nothing.
 use mathlib.Core.Path.{_≡_, refl}
 use mathlib.Core.Logic.{_≢_}
 use mathlib.Core.Bool.{Bool, true, false, cond, _||_, and-false, or-true}

@@ -1,4 +1,5 @@
--- The mark that is computed is the mark that the evidence and the transfers say. Assumes nothing.
+-- The mark that is computed is the mark that the evidence and the transfers say, because the final table has exactly the accounts with a mint. Assumes
+-- nothing.
 use mathlib.Core.Path.{_≡_, refl, sym, _∙_, ap, subst, Σ-path}
 use mathlib.Core.Logic.{_≢_, _⊎_, inl, inr, ⊎-elim, _↔_, by-cases}
 use mathlib.Core.Bool.{Bool, true, false, cond, _||_}
@@ -7,21 +8,19 @@ use mathlib.Core.List.{[], _∷_, List·Memᴰ·head, List·Memᴰ·tail, List·
 use Prim.Native.Nat.{ℕ}
 use native.Mathlib.Omega.{arith}
 use Rattle.wire.proofs.Same.{same-eq, same-ne}
-use Rattle.ids.specs.Keys.{Key, zeroKey}
+use Rattle.ids.specs.Keys.{Key}
 use Rattle.evidence.proofs.Keys.{key?}
 use Rattle.evidence.specs.Table.{Row, Table, Has, SameMembers}
 use Rattle.evidence.proofs.Table.{Found, at, nowhere, found, has-one, has-not-lacks, same-sym}
-use Rattle.evidence.specs.Evidence.{Evidence, recorded, Free, One, Clash}
+use Rattle.evidence.specs.Evidence.{Evidence, recorded, Free, One}
 use Rattle.evidence.proofs.Evidence.{free-map, one-map}
-use Rattle.evidence.proofs.Recording.{has-one-recorded, clash-has, lacks-free}
+use Rattle.evidence.proofs.Recording.{has-one-recorded, lacks-free}
 use Rattle.evidence.specs.Passes.{Transfers, forth, back, Joined, joined}
 use Rattle.evidence.proofs.Infer.{Settled, settled-distinct}
-use Rattle.evidence.specs.Chains.{along}
-use Rattle.evidence.proofs.Chains.{chain-account, settled-sound}
+use Rattle.evidence.proofs.Chains.{settled-sound}
 use Rattle.evidence.specs.Final.{final}
 use Rattle.evidence.proofs.Final.{final-gives}
-use Rattle.evidence.specs.Independence.{Apart}
-use Rattle.evidence.proofs.Independence.{same-agree, same-joined, joined-flip}
+use Rattle.evidence.proofs.Independence.{same-agree, same-joined}
 use Rattle.evidence.specs.Marks.{Mark, Opposed, absent, differ, mark-opposed, mark-recorded, mark-sure, markOf, opposed, opposes}
 
 pub mark-unique : {e : Evidence} {ps : Transfers} {t : Table} {a : Key} {n k : ℕ} → Mark e ps t a n → Mark e ps t a k → n ≡ k
@@ -148,21 +147,3 @@ module _ {e : Evidence} {ps : Transfers} {t : Table} (s : Settled e ps t) where
           mark-recorded (has-one-recorded i (λ z. g .1 (has-one (g .0) ((settled-sound s) .kept i) ∙ z)))
       go (nowhere l) (clear n) = mark-sure (lacks-free l) n
       go (nowhere l) (opposing o) = mark-opposed (lacks-free l) o
-
-  -- who opposes is another account, neither the zero key nor ambiguous
-  pub opposed-by : {a : Key} (o : Opposed (final t) ps a) → (o .b ≢ a) × (o .b ≢ zeroKey) × ¬ Clash e (o .b)
-  opposed-by {a} o =
-      let g = final-gives (settled-distinct s) (o .there) in (
-        λ q. o .apart (has-one (o .here) (subst (λ (c : Key). Has c (o .k) (final t)) q (o .there))),
-        chain-account ((settled-sound s) .chain (g .0) (g .1)),
-        λ c. g .1 (has-one (g .0) ((settled-sound s) .kept (clash-has c))),
-      )
-
-  -- where no account is reached from two mints, no filled-in account is opposed
-  pub apart-sure : {a : Key} → Apart e ps → Free e a → ¬ Opposed (final t) ps a
-  apart-sure h f o =
-      let x = final-gives (settled-distinct s) (o .here) in
-      let y = final-gives (settled-distinct s) (o .there) in
-      let c = (settled-sound s) .chain (x .0) (x .1) in
-      let d = (settled-sound s) .chain (y .0) (y .1) in
-      o .apart (h .apart f c (along d (joined-flip (o .path)) f (chain-account c)))

@@ -1,11 +1,11 @@
--- The rows that are written: the final rows with their marks, the same for the same evidence. Assumes nothing.
+-- The rows that are written: the final rows with their marks, the same for the same evidence, because both follow from the final table. Assumes nothing.
 use mathlib.Core.Path.{_≡_, refl, sym, _∙_, ap, ap₂, subst}
 use mathlib.Core.List.{List, [], _∷_, map, List·Memᴰ, List·Memᴰ·head, List·Memᴰ·tail, Memᴰ·map, Memᴰ·of-map, Memᴰ·cast}
 use Prim.Native.Nat.{ℕ}
 use Rattle.ids.specs.Keys.{Key}
 use Rattle.evidence.specs.Table.{Row, Table, accounts, lookup, Has, SameMembers}
 use Rattle.evidence.proofs.Table.{row-of-has}
-use Rattle.evidence.specs.Evidence.{Evidence, recorded, One, Free}
+use Rattle.evidence.specs.Evidence.{Evidence, recorded, One}
 use Rattle.evidence.proofs.Recording.{one-has, one-not-zero}
 use Rattle.evidence.proofs.Distinct.{Distinct, row-has}
 use Rattle.evidence.specs.Passes.{Transfers}
@@ -19,8 +19,8 @@ use Rattle.evidence.specs.Final.{final}
 use Rattle.evidence.proofs.Final.{final-sorted, final-gives, gives-final}
 use Rattle.evidence.specs.Independence.{Apart}
 use Rattle.evidence.proofs.Independence.{same-final, same-final-accounts}
-use Rattle.evidence.specs.Marks.{markOf, Mark, mark-recorded, mark-sure}
-use Rattle.evidence.proofs.Marks.{mark-unique, same-mark, mark-right, apart-sure}
+use Rattle.evidence.specs.Marks.{markOf, Mark, mark-recorded}
+use Rattle.evidence.proofs.Marks.{mark-unique, same-mark, mark-right}
 use Rattle.evidence.specs.MintTable.{MintRow, mintIn, mintTable, rowAccounts, withMark}
 
 -- the rows ascend by account
@@ -79,10 +79,6 @@ module _ {e : Evidence} {ps : Transfers} {t : Table} (s : Settled e ps t) where
       let h = gives-final (settled-distinct s) ((settled-sound s) .kept (one-has o)) (one-not-zero o) in
       let i = Memᴰ·map (withMark (recorded e) ps (final t)) (row-of-has h) in
       Memᴰ·cast (ap (λ (n : ℕ). (a, m, n)) (mark-unique (mark-recorded o) (mark-right s h))) i
-
-  -- where no account is reached from two mints, every filled-in row has mark 1
-  pub table-sure : {a m : Key} {n : ℕ} → Apart e ps → Free e a → List·Memᴰ (a, m, n) (mintTable (recorded e) ps t) → n ≡ 1
-  table-sure h f i = mark-unique ((table-right i) .1) (mark-sure f (apart-sure s h f))
 
 -- T5 for the written rows: the same members in any order
 module _ {e e′ : Evidence} {ps ps′ : Transfers} {t t′ : Table} (se : SameMembers e e′) (sp : SameMembers ps ps′) (s : Settled e ps t) (s′ : Settled e′ ps′ t′) where

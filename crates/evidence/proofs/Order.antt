@@ -1,4 +1,5 @@
--- The theorem of order: the mint table of the same evidence and the same plain transfers, in any order. Assumes nothing.
+-- The theorem of order: the mint table of the same evidence and the same plain transfers, in any order; all of it is said by members and chains. Assumes
+-- nothing.
 use mathlib.Core.Path.{_≡_, refl, sym, _∙_, ap}
 use mathlib.Core.Logic.{_↔_, _⊎_}
 use mathlib.Core.Option.{Option, none, some, Option·none-ne-some, Option·some-injective}
@@ -11,7 +12,7 @@ use Rattle.evidence.specs.Table.{Table, SameMembers}
 use Rattle.evidence.specs.Evidence.{Evidence, recorded, One, Free}
 use Rattle.evidence.proofs.Evidence.{one-map}
 use Rattle.evidence.specs.Passes.{Transfers}
-use Rattle.evidence.specs.Run.{Outcome}
+use Rattle.evidence.specs.Run.{TableAfter}
 use Rattle.evidence.specs.Infer.{infer}
 use Rattle.evidence.proofs.Infer.{Settled, infer-settled, infer-passes, infer-none, settled-distinct}
 use Rattle.evidence.specs.Chains.{Chain}
@@ -23,11 +24,11 @@ use Rattle.evidence.proofs.Independence.{same-agree, same-room}
 use Rattle.evidence.proofs.Bound.{Among, rows-bound, enough}
 use Rattle.evidence.specs.Marks.{Mark}
 use Rattle.evidence.proofs.Marks.{mark-zero, mark-filled}
-use Rattle.evidence.specs.MintTable.{Answer, mintTable, rowAccounts, finish, mints}
-use Rattle.evidence.proofs.MintTable.{table-ascending, same-table-accounts, same-table, table-right, table-there, table-kept, table-sure}
+use Rattle.evidence.specs.MintTable.{MintAnswer, mintTable, rowAccounts, finish, mints}
+use Rattle.evidence.proofs.MintTable.{table-ascending, same-table-accounts, same-table, table-right, table-there, table-kept}
 
 -- how an answer is made: from a table with all evidence, to which no transfer hands on another mint
-pub record Made (e : Evidence) (ps : Transfers) (x : Answer) : Type 0 where
+pub record Made (e : Evidence) (ps : Transfers) (x : MintAnswer) : Type 0 where
   pub table : Table
   pub settled : Settled e ps table
   pub rows : x .rows ≡ mintTable (recorded e) ps table
@@ -35,11 +36,11 @@ pub record Made (e : Evidence) (ps : Transfers) (x : Answer) : Type 0 where
   pub passes : x .passes ≤ x .room
   pub no-pass : (x .passes ≡ 0) ↔ (recorded e ≡ [])
 
-pub mints-made : (f : ℕ) (e : Evidence) (ps : Transfers) {x : Answer} → mints f e ps ≡ some x → Made e ps x
+pub mints-made : (f : ℕ) (e : Evidence) (ps : Transfers) {x : MintAnswer} → mints f e ps ≡ some x → Made e ps x
 unfolding mints finish
 mints-made f e ps {x} q = go (infer f e ps) refl q
   where
-    go : (o : Option Outcome) → infer f e ps ≡ o → finish (recorded e) ps o ≡ some x → Made e ps x
+    go : (o : Option TableAfter) → infer f e ps ≡ o → finish (recorded e) ps o ≡ some x → Made e ps x
     go none p k = absurd (Option·none-ne-some x k)
     go (some t) p k =
         rw
@@ -54,20 +55,20 @@ mints-made f e ps {x} q = go (infer f e ps) refl q
         })
 
 -- T6. With as much fuel as keys there is an answer, after no more passes than rows, which are no more than the keys.
-pub answered : {l : List Key} {e : Evidence} {ps : Transfers} → Among l e ps → (f : ℕ) → length l ≤ f → (x : Answer) × (mints f e ps ≡ some x) × (x .room ≤ length l)
+pub answered : {l : List Key} {e : Evidence} {ps : Transfers} → Among l e ps → (f : ℕ) → length l ≤ f → (x : MintAnswer) × (mints f e ps ≡ some x) × (x .room ≤ length l)
 unfolding mints finish
 answered {l} {e} {ps} h f b = go (enough h f b)
   where
-    go : (t : Table) × (n : ℕ) × (infer f e ps ≡ some (t, n)) × Settled e ps t × (n ≤ length l) → (x : Answer) × (mints f e ps ≡ some x) × (x .room ≤ length l)
+    go : (t : Table) × (n : ℕ) × (infer f e ps ≡ some (t, n)) × Settled e ps t × (n ≤ length l) → (x : MintAnswer) × (mints f e ps ≡ some x) × (x .room ≤ length l)
     go (t, n, q, s, k) = (record { rows = mintTable (recorded e) ps t; room = length t; passes = n }, rw q, rows-bound h (s .grows))
 
 -- 256 keys: an answer always, after at most 256 passes
-pub answered-256 : {l : List Key} {e : Evidence} {ps : Transfers} → Among l e ps → length l ≤ 256 → (x : Answer) × (mints 512 e ps ≡ some x) × (x .room ≤ 256) × (x .passes ≤ 256)
+pub answered-256 : {l : List Key} {e : Evidence} {ps : Transfers} → Among l e ps → length l ≤ 256 → (x : MintAnswer) × (mints 512 e ps ≡ some x) × (x .room ≤ 256) × (x .passes ≤ 256)
 answered-256 {e} {ps} h b =
     let x = answered h 512 (omega arith) in
     (x .0, x .1, omega arith, omega (arith, (mints-made 512 e ps (x .1)) .passes))
 
-module _ {e : Evidence} {ps : Transfers} {x : Answer} (y : Made e ps x) where
+module _ {e : Evidence} {ps : Transfers} {x : MintAnswer} (y : Made e ps x) where
   -- a row has a mint at the start of a chain (of no transfer, for a recorded account), and its account's mark
   pub row-right : {a m : Key} {n : ℕ} → List·Memᴰ (a, m, n) (x .rows) → Chain e ps m a × Mark e ps (final (y .table)) a n
   row-right i = table-right (y .settled) (rw (y .rows) at i)
@@ -95,12 +96,8 @@ module _ {e : Evidence} {ps : Transfers} {x : Answer} (y : Made e ps x) where
   pub row-filled : {a m : Key} {n : ℕ} → List·Memᴰ (a, m, n) (x .rows) → ((n ≡ 1) ⊎ (n ≡ 2)) ↔ Free e a
   row-filled i = mark-filled ((row-right i) .1)
 
-  -- where no account is reached from two mints, a filled-in row has mark 1
-  pub row-sure : {a m : Key} {n : ℕ} → Apart e ps → Free e a → List·Memᴰ (a, m, n) (x .rows) → n ≡ 1
-  row-sure h f i = table-sure (y .settled) h f (rw (y .rows) at i)
-
 -- two answers: the same accounts with a mint, as much room; each recorded mint in both; and the same rows where no account is reached from two mints
-pub record Alike (e : Evidence) (ps : Transfers) (x y : Answer) : Type 0 where
+pub record Alike (e : Evidence) (ps : Transfers) (x y : MintAnswer) : Type 0 where
   pub accounts : rowAccounts (x .rows) ≡ rowAccounts (y .rows)
   pub count : length (x .rows) ≡ length (y .rows)
   pub room : x .room ≡ y .room
@@ -108,7 +105,7 @@ pub record Alike (e : Evidence) (ps : Transfers) (x y : Answer) : Type 0 where
   pub rows : Apart e ps → x .rows ≡ y .rows
 
 -- T5. Two answers over the same members are alike.
-pub alike : {e e′ : Evidence} {ps ps′ : Transfers} {x y : Answer} → SameMembers e e′ → SameMembers ps ps′ → Made e ps x → Made e′ ps′ y → Alike e ps x y
+pub alike : {e e′ : Evidence} {ps ps′ : Transfers} {x y : MintAnswer} → SameMembers e e′ → SameMembers ps ps′ → Made e ps x → Made e′ ps′ y → Alike e ps x y
 alike {e} {e′} {ps} {ps′} {x} {y} se sp m n =
     record {
       accounts = same;

@@ -1,4 +1,4 @@
--- What a step and a pass do to a table: it grows by a row that a transfer hands on, or stays. Assumes nothing.
+-- What a step and a pass do to a table: it grows by a row that a transfer hands on, or stays, as the two ends' mints decide. Assumes nothing.
 use mathlib.Core.Path.{_≡_, refl, _∙_, subst}
 use mathlib.Core.Logic.{_≢_, by-cases}
 use mathlib.Core.Bool.{or-true}
@@ -27,9 +27,9 @@ pub record Stuck (t : Table) (p : Row) : Type 0 where
   pub stuck : {a b m : Key} → Ends a b p → ¬ Hands a b m t
 
 -- what a step does: it hands a mint from one end to the other, or neither end can
-pub data Stepped (t : Table) (p : Row) : Table → Type 0 where
-  handed : {a b m : Key} → Ends a b p → Hands a b m t → Stepped t p (add t b m)
-  still : Stuck t p → Stepped t p t
+pub data SteppedTo (t : Table) (p : Row) : Table → Type 0 where
+  handed : {a b m : Key} → Ends a b p → Hands a b m t → SteppedTo t p (add t b m)
+  still : Stuck t p → SteppedTo t p t
 
 module _ (t : Table) (p : Row) where
   both-stuck : ((m : Key) → ¬ Hands (p .0) (p .1) m t) → ((m : Key) → ¬ Hands (p .1) (p .0) m t) → Stuck t p
@@ -40,7 +40,7 @@ module _ (t : Table) (p : Row) where
       go {m} (back q) h = g m (subst (λ (r : Row). Hands (r .1) (r .0) m t) q h)
 
   -- past the zero keys, by what is known of the two ends
-  spread-view : {o q : Option Key} → p .0 ≢ zeroKey → p .1 ≢ zeroKey → Found t (p .0) o → Found t (p .1) q → Stepped t p (spread t p o q)
+  spread-view : {o q : Option Key} → p .0 ≢ zeroKey → p .1 ≢ zeroKey → Found t (p .0) o → Found t (p .1) q → SteppedTo t p (spread t p o q)
   unfolding spread fill
   spread-view n d (at h) (at k) = still (both-stuck (λ m i. has-not-lacks k (i .fresh)) (λ m i. has-not-lacks h (i .fresh)))
   spread-view n d (at {m} h) (nowhere l) =
@@ -55,7 +55,7 @@ module _ (t : Table) (p : Row) where
       (λ z. rw (same-ne z) (handed (back refl) (record { from = h; mint = z; source = d; target = n; fresh = l })))
   spread-view n d (nowhere l) (nowhere k) = still (both-stuck (λ m i. has-not-lacks (i .from) l) (λ m i. has-not-lacks (i .from) k))
 
-  pub step-view : Stepped t p (step t p)
+  pub step-view : SteppedTo t p (step t p)
   unfolding step
   step-view =
       by-cases
@@ -86,7 +86,7 @@ module _ {ps : Transfers} where
   pass-grown-from t [] sub = grown
   pass-grown-from t (p ∷ qs) sub = go (step-view t p) (λ u. pass-grown-from u qs (λ x i. sub x (List·Memᴰ·tail i)))
     where
-      go : {u : Table} → Stepped t p u → ((u : Table) → Grown ps (pass u qs) u) → Grown ps (pass u qs) t
+      go : {u : Table} → SteppedTo t p u → ((u : Table) → Grown ps (pass u qs) u) → Grown ps (pass u qs) t
       go (handed x h) below = grow (joined x (sub p (List·Memᴰ·head refl))) h (below _)
       go (still _) below = below _
 

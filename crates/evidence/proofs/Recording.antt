@@ -1,6 +1,7 @@
--- T1: after all evidence the table says of each account what the members of the evidence say. Assumes nothing.
+-- T1: after all evidence the table says of each account what the members of the evidence say, since each piece changes the row of its account alone. Assumes
+-- nothing.
 use mathlib.Core.Path.{_≡_, refl, sym, _∙_, ap}
-use mathlib.Core.Logic.{_≢_, _⊎_, inl, inr, _↔_, ⊎-elim, by-cases}
+use mathlib.Core.Logic.{_≢_, _⊎_, inl, inr, ⊎-elim, by-cases}
 use mathlib.Core.Bool.{Bool, true, false, cond, _||_, or-true}
 use mathlib.Core.List.{[], _∷_, _++_, append-assoc, append-nil, List·Memᴰ, List·Memᴰ·head, List·Memᴰ·append-cases, List·Memᴰ·not-nil, List·Memᴰ·eq-of-singleton, Memᴰ·append-left, Memᴰ·append-right}
 use Rattle.wire.proofs.Same.{same-eq, same-ne}
@@ -9,7 +10,7 @@ use Rattle.evidence.proofs.Keys.{key?}
 use Rattle.evidence.specs.Table.{Row, Table, add, Has, has-here, has-there, Lacks, lacks-nil, lacks-cons, lookup}
 use Rattle.evidence.proofs.Table.{has-new, has-one, has-not-lacks, has-lookup, lacks-lookup}
 use Rattle.evidence.specs.Evidence.{Evidence, put, note, noteAll, recorded, Says, Free, One, Clash}
-use Rattle.evidence.proofs.Evidence.{Noted, free, one, clash, Agree, free-map, one-map, clash-map}
+use Rattle.evidence.proofs.Evidence.{NotedAs, free, one, clash, Agree, free-map, one-map, clash-map}
 
 module _ {a m : Key} where
   pub put-same : {t : Table} → Has a m t → put t a m ≡ t
@@ -60,12 +61,12 @@ note-cases P x t old new = go (isZero (x .0) || isZero (x .1))
     go true = old
     go false = new
 
-noted-map : {e e′ : Evidence} {a : Key} {t : Table} → Agree e e′ a → Noted e a t → Noted e′ a t
+noted-map : {e e′ : Evidence} {a : Key} {t : Table} → Agree e e′ a → NotedAs e a t → NotedAs e′ a t
 noted-map g (free f l) = free (free-map g f) l
 noted-map g (one o h) = one (one-map g o) h
 noted-map g (clash c h) = clash (clash-map g c) h
 
-put-other-noted : {e : Evidence} {a b : Key} {t : Table} (m : Key) → b ≢ a → Noted e b t → Noted e b (put t a m)
+put-other-noted : {e : Evidence} {a b : Key} {t : Table} (m : Key) → b ≢ a → NotedAs e b t → NotedAs e b (put t a m)
 put-other-noted m n (free f l) = free f (put-other-lacks n m l)
 put-other-noted m n (one o h) = one o (put-other n m h)
 put-other-noted m n (clash c h) = clash c (put-other n m h)
@@ -95,27 +96,27 @@ module _ (e : Evidence) {a m : Key} (va : a ≢ zeroKey) (vm : m ≢ zeroKey) wh
   new : Says (e ++ ((a, m) ∷ [])) a m
   new = record { piece = Memᴰ·append-right e (List·Memᴰ·head refl); account = va; mint = vm }
 
-  put-noted : {t : Table} → Noted e a t → Noted (e ++ ((a, m) ∷ [])) a (put t a m)
+  put-noted : {t : Table} → NotedAs e a t → NotedAs (e ++ ((a, m) ∷ [])) a (put t a m)
   put-noted {t} (free f l) = rw (put-new m l) (one (record { says = new; only = only }) (has-new m l))
     where
       only : {k : Key} → Says (e ++ ((a, m) ∷ [])) a k → k ≡ m
       only s = ⊎-elim (λ h. absurd (f .silent h)) (λ q. ap (λ r. r .1) q) (says-cases (a, m) s)
   put-noted {t} (one {m = k} o h) = by-cases (key? m k) same differ
     where
-      same : m ≡ k → Noted (e ++ ((a, m) ∷ [])) a (put t a m)
+      same : m ≡ k → NotedAs (e ++ ((a, m) ∷ [])) a (put t a m)
       same q = rw (put-same (rw (← q) at h)) (one (record { says = new; only = only }) (rw (← q) at h))
         where
           only : {j : Key} → Says (e ++ ((a, m) ∷ [])) a j → j ≡ m
           only s = ⊎-elim (λ i. o .only i ∙ sym q) (λ p. ap (λ r. r .1) p) (says-cases (a, m) s)
 
-      differ : m ≢ k → Noted (e ++ ((a, m) ∷ [])) a (put t a m)
+      differ : m ≢ k → NotedAs (e ++ ((a, m) ∷ [])) a (put t a m)
       differ d = clash (record { m = m; k = k; says = new; other = says-old (a, m) (o .says); differ = d }) (put-clash d h)
   put-noted {t} (clash c h) =
       clash
       (record { m = c .m; k = c .k; says = says-old (a, m) (c .says); other = says-old (a, m) (c .other); differ = c .differ })
       (put-clash vm h)
 
-note-noted : (e : Evidence) (x : Row) (t : Table) (a : Key) → Noted e a t → Noted (e ++ (x ∷ [])) a (note t x)
+note-noted : (e : Evidence) (x : Row) (t : Table) (a : Key) → NotedAs e a t → NotedAs (e ++ (x ∷ [])) a (note t x)
 note-noted e x t a h =
     by-cases
     (key? (x .0) zeroKey)
@@ -132,13 +133,13 @@ note-noted e x t a h =
     (λ q. rw q (put-noted e va vm (rw q at h)))
     (λ n. put-other-noted (x .1) n (noted-map (agree-skip e x (λ m _ _ q. n (ap (λ r. r .0) q))) h)))))
 
-noteAll-noted : (e d : Evidence) (t : Table) (a : Key) → Noted e a t → Noted (e ++ d) a (noteAll t d)
+noteAll-noted : (e d : Evidence) (t : Table) (a : Key) → NotedAs e a t → NotedAs (e ++ d) a (noteAll t d)
 unfolding noteAll
 noteAll-noted e [] t a h = rw append-nil h
 noteAll-noted e (x ∷ d) t a h = rw (← append-assoc e (x ∷ []) d) (noteAll-noted (e ++ (x ∷ [])) d (note t x) a (note-noted e x t a h))
 
 -- T1. After all evidence the table says of each account what the evidence says: nothing, one mint, or that two pieces differ.
-pub recorded-noted : (e : Evidence) (a : Key) → Noted e a (recorded e)
+pub recorded-noted : (e : Evidence) (a : Key) → NotedAs e a (recorded e)
 unfolding recorded
 recorded-noted e a = noteAll-noted [] e [] a (free (record { silent = λ s. List·Memᴰ·not-nil (s .piece) }) lacks-nil)
 
@@ -153,7 +154,7 @@ module _ {e : Evidence} {a : Key} where
   pub one-has : {m : Key} → One e a m → Has a m (recorded e)
   one-has {m} o = go (recorded-noted e a)
     where
-      go : {t : Table} → Noted e a t → Has a m t
+      go : {t : Table} → NotedAs e a t → Has a m t
       go (free f l) = absurd (f .silent (o .says))
       go (one {m = k} p h) = rw (p .only (o .says)) h
       go (clash c h) = absurd (one-not-clash o c)
@@ -161,7 +162,7 @@ module _ {e : Evidence} {a : Key} where
   pub has-one-recorded : {m : Key} → Has a m (recorded e) → m ≢ zeroKey → One e a m
   has-one-recorded {m} h d = go (recorded-noted e a) h
     where
-      go : {t : Table} → Noted e a t → Has a m t → One e a m
+      go : {t : Table} → NotedAs e a t → Has a m t → One e a m
       go (free f l) i = absurd (has-not-lacks i l)
       go (one {m = k} p j) i = rw (has-one i j) p
       go (clash c j) i = absurd (d (has-one i j))
@@ -169,7 +170,7 @@ module _ {e : Evidence} {a : Key} where
   pub clash-has : Clash e a → Has a zeroKey (recorded e)
   clash-has c = go (recorded-noted e a)
     where
-      go : {t : Table} → Noted e a t → Has a zeroKey t
+      go : {t : Table} → NotedAs e a t → Has a zeroKey t
       go (free f l) = absurd (f .silent (c .says))
       go (one p h) = absurd (one-not-clash p c)
       go (clash _ h) = h
@@ -177,7 +178,7 @@ module _ {e : Evidence} {a : Key} where
   pub has-clash : Has a zeroKey (recorded e) → Clash e a
   has-clash h = go (recorded-noted e a) h
     where
-      go : {t : Table} → Noted e a t → Has a zeroKey t → Clash e a
+      go : {t : Table} → NotedAs e a t → Has a zeroKey t → Clash e a
       go (free f l) i = absurd (has-not-lacks i l)
       go (one p j) i = absurd (one-not-zero p (has-one j i))
       go (clash c j) i = c
@@ -185,7 +186,7 @@ module _ {e : Evidence} {a : Key} where
   pub free-lacks : Free e a → Lacks a (recorded e)
   free-lacks f = go (recorded-noted e a)
     where
-      go : {t : Table} → Noted e a t → Lacks a t
+      go : {t : Table} → NotedAs e a t → Lacks a t
       go (free _ l) = l
       go (one p h) = absurd (f .silent (p .says))
       go (clash c h) = absurd (f .silent (c .says))
@@ -193,7 +194,7 @@ module _ {e : Evidence} {a : Key} where
   pub lacks-free : Lacks a (recorded e) → Free e a
   lacks-free l = go (recorded-noted e a) l
     where
-      go : {t : Table} → Noted e a t → Lacks a t → Free e a
+      go : {t : Table} → NotedAs e a t → Lacks a t → Free e a
       go (free f _) i = f
       go (one p h) i = absurd (has-not-lacks h i)
       go (clash c h) i = absurd (has-not-lacks h i)
@@ -202,18 +203,7 @@ module _ {e : Evidence} {a : Key} where
 pub recorded-lookup : {e e′ : Evidence} {a : Key} → Agree e e′ a → lookup (recorded e) a ≡ lookup (recorded e′) a
 recorded-lookup {e} {e′} {a} g = go (recorded-noted e a)
   where
-    go : {t : Table} → Noted e a t → lookup t a ≡ lookup (recorded e′) a
+    go : {t : Table} → NotedAs e a t → lookup t a ≡ lookup (recorded e′) a
     go (free f l) = lacks-lookup l ∙ sym (lacks-lookup (free-lacks (free-map g f)))
     go (one o h) = has-lookup h ∙ sym (has-lookup (one-has (one-map g o)))
     go (clash c h) = has-lookup h ∙ sym (has-lookup (clash-has (clash-map g c)))
-
--- nothing is recorded exactly when there is no valid evidence for any account
-pub recorded-none : (e : Evidence) → (recorded e ≡ []) ↔ ((a : Key) → Free e a)
-recorded-none e = (λ q a. lacks-free (rw q lacks-nil), λ f. go (recorded e) (λ a. free-lacks (f a)))
-  where
-    headless : {r : Row} {t : Table} → ¬ Lacks (r .0) (r ∷ t)
-    headless (lacks-cons n l) = n refl
-
-    go : (t : Table) → ((a : Key) → Lacks a t) → t ≡ []
-    go [] f = refl
-    go (r ∷ t) f = absurd (headless (f (r .0)))

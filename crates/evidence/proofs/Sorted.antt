@@ -1,4 +1,4 @@
--- A sorted table has the rows of the table, in the order of their accounts. Assumes nothing.
+-- A sorted table has the rows of the table, in the order of their accounts, because each row is put in before the first that is greater. Assumes nothing.
 use mathlib.Core.Path.{_≡_, refl, sym, _∙_, ap, subst}
 use mathlib.Core.Logic.{_≢_, _⊎_, inl, inr, ⊎-map}
 use mathlib.Core.Bool.{Bool, true, false, cond}

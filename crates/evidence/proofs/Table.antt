@@ -1,4 +1,4 @@
--- What the search finds, also in a longer table. Assumes nothing.
+-- What the search finds, also in a longer table: the first row of the account, if there is one. Assumes nothing.
 use mathlib.Core.Path.{_≡_, refl, sym, _∙_, Σ-path}
 use mathlib.Core.Logic.{_≢_, _⊎_, inl, inr, by-cases}
 use mathlib.Core.Option.{Option, none, some}

@@ -9,7 +9,7 @@ use Rattle.ids.specs.Keys.{Key}
 use Rattle.evidence.specs.Table.{Row, Table}
 use Rattle.evidence.specs.Evidence.{Evidence, recorded}
 use Rattle.evidence.specs.Passes.{Transfers}
-use Rattle.evidence.specs.Run.{Outcome}
+use Rattle.evidence.specs.Run.{TableAfter}
 use Rattle.evidence.specs.Infer.{infer}
 use Rattle.evidence.specs.Final.{final}
 use Rattle.evidence.specs.Marks.{markOf}
@@ -27,18 +27,18 @@ unfoldable pub mintTable : Table → Transfers → Table → List MintRow
 mintTable r ps t = map (withMark r ps (final t)) (final t)
 
 -- the rows, the accounts that need room (ambiguous ones count), and the passes
-pub record Answer : Type 0 where
+pub record MintAnswer : Type 0 where
   pub rows : List MintRow
   pub room : ℕ
   pub passes : ℕ
 
 -- the answer when the passes are over
-unfoldable pub finish : Table → Transfers → Option Outcome → Option Answer
+unfoldable pub finish : Table → Transfers → Option TableAfter → Option MintAnswer
 finish r ps none = none
 finish r ps (some t) = some (record { rows = mintTable r ps (t .0); room = length (t .0); passes = t .1 })
 
 -- the mint table of all evidence and all plain transfers; none where the fuel, the passes that are allowed, does not suffice
-unfoldable pub mints : ℕ → Evidence → Transfers → Option Answer
+unfoldable pub mints : ℕ → Evidence → Transfers → Option MintAnswer
 mints f e ps = finish (recorded e) ps (infer f e ps)
 
 -- the mint that the table gives an account: its first row with that account decides

@@ -7,15 +7,15 @@ use lib.ListN.{length}
 use Rattle.evidence.specs.Table.{Table}
 
 -- a table and the number of passes that made it
-abbrev pub Outcome : Type 0
-Outcome = Table × ℕ
+abbrev pub TableAfter : Type 0
+TableAfter = Table × ℕ
 
 -- one pass more
-unfoldable pub counted : Option Outcome → Option Outcome
-counted none = none
-counted (some r) = some (r .0, suc (r .1))
+unfoldable pub onceMore : Option TableAfter → Option TableAfter
+onceMore none = none
+onceMore (some r) = some (r .0, suc (r .1))
 
 -- passes g until one adds nothing, which counts too; nothing when the fuel does not suffice
-unfoldable pub run : ℕ → (Table → Table) → Table → Option Outcome
+unfoldable pub run : ℕ → (Table → Table) → Table → Option TableAfter
 run zero g t = none
-run (suc f) g t = elim (eqb (length (g t)) (length t)) [ true ↦ some (t, 1) | false ↦ counted (run f g (g t)) ]
+run (suc f) g t = elim (eqb (length (g t)) (length t)) [ true ↦ some (t, 1) | false ↦ onceMore (run f g (g t)) ]

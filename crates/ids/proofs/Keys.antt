@@ -1,4 +1,4 @@
--- How long keys and mints are.
+-- A key has 32 bytes and a mint's field 33, whether they are there or not: what stands for a missing one is as long.
 -- Assumes nothing.
 use mathlib.Core.Path.{_≡_, refl, ap}
 use mathlib.Core.Bool.{Bool, true, false, cond}

@@ -11,36 +11,14 @@ use Rattle.wire.proofs.Below.{below-at}
 use Rattle.ids.specs.Keys.{Key, zeroKey}
 use Rattle.ids.specs.Ids.{idAt}
 use Rattle.ids.specs.Which.{numberOf, ofNumber, rowFrom, which}
-use Rattle.ids.specs.declared.Id.{Id}
-use Rattle.ids.specs.declared.Id.the-variants.{SplToken, Token2022, WrappedSol, ComputeBudget, AssociatedToken, Memo, PumpFun, LaunchLab, PumpSwap, Clmm, Cpmm, AmmV4, Orca, Dlmm, System, Other, Unresolved}
-use Rattle.ids.proofs.Rows.{Row, at, no-row-zero, no-row, row-view, found, found-zero}
-
--- each case has one number
-pub of-numberOf : (i : Id) → ofNumber (numberOf i) ≡ i
-unfolding ofNumber
-of-numberOf SplToken = refl
-of-numberOf Token2022 = refl
-of-numberOf WrappedSol = refl
-of-numberOf ComputeBudget = refl
-of-numberOf AssociatedToken = refl
-of-numberOf Memo = refl
-of-numberOf PumpFun = refl
-of-numberOf LaunchLab = refl
-of-numberOf PumpSwap = refl
-of-numberOf Clmm = refl
-of-numberOf Cpmm = refl
-of-numberOf AmmV4 = refl
-of-numberOf Orca = refl
-of-numberOf Dlmm = refl
-of-numberOf System = refl
-of-numberOf Other = refl
-of-numberOf Unresolved = refl
+use Rattle.ids.specs.declared.Id.the-variants.{System}
+use Rattle.ids.proofs.Rows.{RowFound, at, no-row-zero, no-row, row-view, found, found-zero}
 
 all-numbers : allBelow (λ n. eqb (numberOf (ofNumber n)) n) 17 ≡ true
 unfolding ofNumber
 all-numbers = refl
 
--- and each number below 17 one case
+-- each number below 17 is that of one case
 pub numberOf-of : (n : ℕ) → n < 17 → numberOf (ofNumber n) ≡ n
 numberOf-of n h = eqb-true _ n (below-at (λ k. eqb (numberOf (ofNumber k)) k) 17 all-numbers n h)
 
@@ -49,7 +27,7 @@ which-number : (key : Key) → numberOf (which key) ≡ rowFrom key 14 0
 unfolding which
 which-number key = numberOf-of (rowFrom key 14 0) (small (row-view key 14 0))
   where
-    small : {j : ℕ} → Row key 14 0 j → j < 17
+    small : {j : ℕ} → RowFound key 14 0 j → j < 17
     small (at h e) = omega arith
     small (no-row-zero e) = omega arith
     small (no-row n f) = omega arith
@@ -58,7 +36,7 @@ which-number key = numberOf-of (rowFrom key 14 0) (small (row-view key 14 0))
 pub case-is : (key : Key) (k : ℕ) → k < 14 → numberOf (which key) ≡ k → idAt k ≡ key
 case-is key k h q = go (sym (which-number key) ∙ q) (row-view key 14 0)
   where
-    go : {j : ℕ} → j ≡ k → Row key 14 0 j → idAt k ≡ key
+    go : {j : ℕ} → j ≡ k → RowFound key 14 0 j → idAt k ≡ key
     go p (at h e) = rw (← p) e
     go p (no-row-zero e) = absurd (omega arith)
     go p (no-row n f) = absurd (omega arith)
@@ -71,7 +49,7 @@ is-case key k h q = which-number key ∙ found key k h q
 pub system-is : (key : Key) → which key ≡ System → key ≡ zeroKey
 system-is key q = go (sym (which-number key) ∙ ap numberOf q) (row-view key 14 0)
   where
-    go : {j : ℕ} → j ≡ 14 → Row key 14 0 j → key ≡ zeroKey
+    go : {j : ℕ} → j ≡ 14 → RowFound key 14 0 j → key ≡ zeroKey
     go p (at h e) = absurd (omega arith)
     go p (no-row-zero e) = e
     go p (no-row n f) = absurd (omega arith)

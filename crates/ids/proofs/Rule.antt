@@ -12,15 +12,15 @@ use Rattle.wire.specs.Below.{allBelow}
 use Rattle.wire.proofs.Below.{below-at}
 use Rattle.ids.specs.Keys.{Key, zeroKey}
 use Rattle.ids.specs.Ids.{ids, idAt}
-use Rattle.ids.specs.Which.{rowBy}
+use Rattle.ids.specs.Which.{rowByFifth}
 
 -- the one row that a key can be
 abbrev pub candidateOf : Key → ℕ
-candidateOf key = rowBy (getD key 4 0) 14 0
+candidateOf key = rowByFifth (getD key 4 0) 14 0
 
 -- computed: all rows
 all-led : allBelow (λ k. eqb (candidateOf (idAt k)) k) 14 ≡ true
-unfolding ids rowBy
+unfolding ids rowByFifth
 all-led = refl
 
 -- an id leads to its own row
@@ -29,7 +29,7 @@ led k h = eqb-true _ k (below-at (λ i. eqb (candidateOf (idAt i)) i) 14 all-led
 
 -- and the zero key to none
 pub zero-led : candidateOf zeroKey ≡ 14
-unfolding ids rowBy zeroKey
+unfolding ids rowByFifth zeroKey
 zero-led = refl
 
 pub distinct : (j k : ℕ) → j < 14 → k < 14 → idAt j ≡ idAt k → j ≡ k

@@ -1,8 +1,10 @@
 -- The fourteen ids, 32 bytes each: six programs and mints of transaction_route.rs, then the eight programs whose swaps are read.
 -- Assumes nothing.
 use Prim.Native.Nat.{ℕ, _*_}
+use mathlib.Core.Bool.{Bool}
 use mathlib.Core.List.{List, [], _∷_}
 use lib.ListN.{take, drop}
+use Rattle.wire.specs.Same.{same}
 
 -- the table, as src/lib.rt has it
 unfoldable pub ids : List ℕ
@@ -26,3 +28,7 @@ ids =
 -- the id of row k
 abbrev pub idAt : ℕ → List ℕ
 idAt k = take 32 (drop (k * 32) ids)
+
+-- whether a mint is wrapped SOL
+unfoldable pub isWrappedSol : List ℕ → Bool
+isWrappedSol mint = same (idAt 2) mint

@@ -2,7 +2,7 @@
 -- Assumes nothing.
 use Prim.Native.Nat.{ℕ, zero, suc, _*_}
 use mathlib.Core.List.{List}
-use mathlib.Core.Bool.{cond, _&&_}
+use mathlib.Core.Bool.{Bool, cond, _&&_}
 use lib.Dec.{ltb, eqb}
 use lib.ListN.{getD}
 use Rattle.wire.specs.Same.{same}
@@ -31,6 +31,10 @@ numberOf System = 14
 numberOf Other = 15
 numberOf Unresolved = 16
 
+-- whether two cases are the same: the Rust's `==` on the keys of two programs
+abbrev pub sameId : Id → Id → Bool
+sameId a b = eqb (numberOf a) (numberOf b)
+
 -- the case of a number
 unfoldable pub ofNumber : ℕ → Id
 ofNumber n =
@@ -57,9 +61,9 @@ rowFrom key zero k = cond (same key zeroKey) 14 15
 rowFrom key (suc m) k = let rest = rowFrom key m (suc k) in cond (same (idAt k) key) k rest
 
 -- the first of m rows, from row k on, whose fifth byte is b; past them, 14 for a zero and 15 for any other byte
-unfoldable pub rowBy : ℕ → ℕ → ℕ → ℕ
-rowBy b zero k = cond (eqb b 0) 14 15
-rowBy b (suc m) k = let rest = rowBy b m (suc k) in cond (eqb b (getD (idAt k) 4 0)) k rest
+unfoldable pub rowByFifth : ℕ → ℕ → ℕ → ℕ
+rowByFifth b zero k = cond (eqb b 0) 14 15
+rowByFifth b (suc m) k = let rest = rowByFifth b m (suc k) in cond (eqb b (getD (idAt k) 4 0)) k rest
 
 -- which program a key is
 unfoldable pub which : Key → Id

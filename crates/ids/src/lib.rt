@@ -3,17 +3,15 @@
 // The fourteen ids of the original stand in one table, whose rule (no two rows share their fifth byte, none has a zero there) is computed once. A missing key
 // is the stand-in handed in beside the keys, and a program is resolved only in range with flag 1.
 ghost use mathlib.Core.Path.{_≡_};
-ghost use mathlib.Core.Bool.{_&&_};
 ghost use Prim.Native.Nat.{_<_};
-ghost use lib.Dec.{ltb};
 ghost use lib.Seq.{sets};
 ghost use Rattle.wire.specs.Same.{same};
-ghost use Rattle.ids.specs.Ids.{ids, idAt};
+ghost use Rattle.ids.specs.Ids.{ids, idAt, isWrappedSol};
 ghost use Rattle.ids.specs.Keys.{keyAt, keyOf, keyCount};
 ghost use Rattle.ids.specs.Mints.{isMint, mintOf, mintField};
-ghost use Rattle.ids.specs.Which.{ofNumber, rowBy, rowFrom};
+ghost use Rattle.ids.specs.Which.{ofNumber, rowByFifth, rowFrom};
 
-pub mod cases;
+pub mod programs;
 
 const IDS: [u8; 448] = *b"\
     \x06\xdd\xf6\xe1\xd7\x65\xa1\x93\xd9\xcb\xe1\x46\xce\xeb\x79\xac\x1c\xb4\x85\xed\x5f\x5b\x37\x91\x3a\x8c\xf5\x85\x7e\xff\x00\xa9\
@@ -112,15 +110,12 @@ fn is_row(table: &[u8], k: usize, key: &[u8]) -> bool
     wire::equal(&table[at..at + 32], key)
 }
 
-// Whether `key` is the id of row k.
-pub fn is_id(k: usize, key: &[u8]) -> bool
-    ensures { λ r. ⌜ r ≡ (ltb k 14 && same (idAt k) (now (key .entry))) ⌝ }
+// Whether a mint is wrapped SOL.
+pub fn is_wrapped_sol(mint: &[u8]) -> bool
+    ensures { λ r. ⌜ r ≡ isWrappedSol (now (mint .entry)) ⌝ }
 {
-    if 14 <= k {
-        return false;
-    }
     let table = IDS;
-    is_row(&table, k, key)
+    is_row(&table, 2, mint)
 }
 
 // The case of a number.
@@ -150,7 +145,7 @@ pub fn of_number(n: u8) -> Id
 
 // The one row that a key can be, by its fifth byte; 14 where that is zero, since no id has a zero there, and 15 where it is in no row.
 fn candidate(fifth: u8) -> u8
-    ensures { λ r. ⌜ r ≡ rowBy fifth 14 0 ⌝ }
+    ensures { λ r. ⌜ r ≡ rowByFifth fifth 14 0 ⌝ }
 {
     match fifth {
         0xd7 => 0,

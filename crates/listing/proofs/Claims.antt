@@ -10,24 +10,24 @@ use lib.Seq.{take-all, length-take-le}
 use borrow.Author.Tests.{eq-eqb, ne-eqb}
 use Rattle.wire.specs.Le.{le, leBytes}
 use Rattle.pack.proofs.Cases.{too-long}
-use Rattle.route.specs.Route.{judged, route, refused as refusal}
+use Rattle.route.specs.Route.{judged, route, refused}
 use Rattle.route.specs.Row.{flagged, invocationRow}
 use Rattle.listing.specs.Decimal.{decimalIn, decimal}
-use Rattle.listing.specs.Listing.{field, named, refused, counts, head, optional, position, line, linesFrom, listed, listing}
-use Rattle.listing.specs.Puts.{Puts}
+use Rattle.listing.specs.Listing.{spaced, wordNumber, refusalLine, counts, head, optional, position, line, linesFrom, listed, listing}
+use Rattle.listing.specs.Puts.{PutsText}
 
 -- for every input one number of bytes, and one content of the lent slice
-pub unique : {m at r s : ℕ} {out text o p : List ℕ} → Puts m out at text o r → Puts m out at text p s → (o ≡ p) × (r ≡ s)
+pub unique : {m at r s : ℕ} {out text o p : List ℕ} → PutsText m out at text o r → PutsText m out at text p s → (o ≡ p) × (r ≡ s)
 unique x y = (x .left ∙ sym (y .left), x .behind ∙ sym (y .behind))
 
 -- less than the names
-pub short : (input : List ℕ) → length input < 88 → listing input ≡ refused 1 0
-unfolding listing listed route refusal
+pub short : (input : List ℕ) → length input < 88 → listing input ≡ refusalLine 1 0
+unfolding listing listed route refused
 short input h = rw (take-all 88 input (omega arith), ne-eqb (length input) 88 (λ e. omega arith))
 
 -- more than the names and the longest pack
-pub long : (input : List ℕ) → 61528 < length input → listing input ≡ refused 2 0
-unfolding listing listed route judged refusal
+pub long : (input : List ℕ) → 61528 < length input → listing input ≡ refusalLine 2 0
+unfolding listing listed route judged refused
 long input h =
     let n : length (take 88 input) ≡ 88 = length-take-le 88 input (omega arith) in
     let p : 61440 < length (drop 88 input) = rw (length-drop 88 input) (omega arith) in
@@ -44,5 +44,5 @@ pub example : listed
     48 ∷ 32 ∷ 45 ∷ 32 ∷ 49 ∷ 32 ∷ 51 ∷ 32 ∷ 48 ∷ 10 ∷
     48 ∷ 32 ∷ 48 ∷ 32 ∷ 50 ∷ 32 ∷ 51 ∷ 32 ∷ 48 ∷ 10 ∷
     48 ∷ 32 ∷ 49 ∷ 32 ∷ 51 ∷ 32 ∷ 51 ∷ 32 ∷ 48 ∷ 10 ∷ []
-unfolding le leBytes flagged invocationRow decimalIn decimal field named counts head optional position line linesFrom listed
+unfolding le leBytes flagged invocationRow decimalIn decimal spaced wordNumber counts head optional position line linesFrom listed
 example = refl

@@ -1,4 +1,4 @@
--- One writer after another.
+-- One writer after another: texts stored one behind the other are stored as one.
 -- Assumes nothing.
 use mathlib.Core.Path.{refl, sym}
 use mathlib.Core.List.{List, [], _++_}
@@ -6,14 +6,14 @@ use Prim.Native.Nat.{ℕ, _+_, _≤_}
 use native.Mathlib.Omega.{arith}
 use lib.ListN.{length-append}
 use Rattle.wire.proofs.Sets.{sets-next}
-use Rattle.listing.specs.Puts.{Puts}
+use Rattle.listing.specs.Puts.{PutsText}
 
 -- nothing is put
-pub puts-none : (out : List ℕ) (at : ℕ) → Puts 0 out at [] out at
+pub puts-none : (out : List ℕ) (at : ℕ) → PutsText 0 out at [] out at
 puts-none out at = record { left = refl; behind = omega arith; within = omega arith }
 
 -- a text, and another behind it
-pub puts-next : {m k at next last : ℕ} {out mid end a b : List ℕ} → Puts m out at a mid next → Puts k mid next b end last → Puts (m + k) out at (a ++ b) end last
+pub puts-next : {m k at next last : ℕ} {out mid end a b : List ℕ} → PutsText m out at a mid next → PutsText k mid next b end last → PutsText (m + k) out at (a ++ b) end last
 puts-next {m} {k} {at} {next} {last} {out} {mid} {end} {a} {b} p q =
     record {
       left = rw (q .left, p .left) (sets-next out at a b next (sym (p .behind)));
@@ -22,5 +22,5 @@ puts-next {m} {k} {at} {next} {last} {out} {mid} {end} {a} {b} p q =
     }
 
 -- a wider bound
-pub puts-wider : {m at next : ℕ} {out text end : List ℕ} (k : ℕ) → m ≤ k → Puts m out at text end next → Puts k out at text end next
+pub puts-wider : {m at next : ℕ} {out text end : List ℕ} (k : ℕ) → m ≤ k → PutsText m out at text end next → PutsText k out at text end next
 puts-wider k h p = record { left = p .left; behind = p .behind; within = omega (arith, p .within) }

@@ -16,30 +16,30 @@ abbrev pub newline : List ℕ
 newline = 10 ∷ []
 
 -- a number with a space in front
-unfoldable pub field : ℕ → List ℕ
-field x = 32 ∷ decimal x
+unfoldable pub spaced : ℕ → List ℕ
+spaced x = 32 ∷ decimal x
 
 -- a word, and a number behind it
-unfoldable pub named : List ℕ → ℕ → List ℕ
-named text x = text ++ field x
+unfoldable pub wordNumber : List ℕ → ℕ → List ℕ
+wordNumber text x = text ++ spaced x
 
--- a refusal: `refused`, its number and its place
-unfoldable pub refused : ℕ → ℕ → List ℕ
-refused number place = named (114 ∷ 101 ∷ 102 ∷ 117 ∷ 115 ∷ 101 ∷ 100 ∷ []) number ++ field place ++ newline
+-- a refusal: `refusalLine`, its number and its place
+unfoldable pub refusalLine : ℕ → ℕ → List ℕ
+refusalLine number place = wordNumber (114 ∷ 101 ∷ 102 ∷ 117 ∷ 115 ∷ 101 ∷ 100 ∷ []) number ++ spaced place ++ newline
 
 -- the rows of tables 0 to 4
 unfoldable pub counts : Answer → List ℕ
-counts a = field (a .mints) ++ field (a .invocations) ++ field (a .transfers) ++ field (a .legs) ++ field (a .natives)
+counts a = spaced (a .mints) ++ spaced (a .invocations) ++ spaced (a .transfers) ++ spaced (a .legs) ++ spaced (a .natives)
 
 -- the first line of a success: `ok`, the rows, ` passes` and their number, ` tests` and theirs
 unfoldable pub head : Answer → List ℕ
 head a =
-    (111 ∷ 107 ∷ []) ++ counts a ++ named (32 ∷ 112 ∷ 97 ∷ 115 ∷ 115 ∷ 101 ∷ 115 ∷ []) (a .passes) ++ named (32 ∷ 116 ∷ 101 ∷ 115 ∷ 116 ∷ 115 ∷ []) (a .tests)
+    (111 ∷ 107 ∷ []) ++ counts a ++ wordNumber (32 ∷ 112 ∷ 97 ∷ 115 ∷ 115 ∷ 101 ∷ 115 ∷ []) (a .passes) ++ wordNumber (32 ∷ 116 ∷ 101 ∷ 115 ∷ 116 ∷ 115 ∷ []) (a .tests)
     ++ newline
 
 -- a number of a row behind its flag, with a space in front: ` -` where the flag is 0
 unfoldable pub optional : List ℕ → ℕ → List ℕ
-optional row flag = cond (eqb (getD row flag 0) 0) (32 ∷ 45 ∷ []) (field (le 4 row (flag + 1)))
+optional row flag = cond (eqb (getD row flag 0) 0) (32 ∷ 45 ∷ []) (spaced (le 4 row (flag + 1)))
 
 -- where the invocation of a row of table 1 stands: outer, inner, height
 unfoldable pub position : List ℕ → List ℕ
@@ -47,7 +47,7 @@ position row = decimal (le 4 row 0) ++ optional row 4 ++ optional row 9
 
 -- its line: where it stands, its end, its bits
 unfoldable pub line : List ℕ → List ℕ
-line row = position row ++ field (le 4 row 14) ++ field (getD row 18 0) ++ newline
+line row = position row ++ spaced (le 4 row 14) ++ spaced (getD row 18 0) ++ newline
 
 -- the lines of n rows from row i on
 unfoldable pub linesFrom : List ℕ → ℕ → ℕ → List ℕ
@@ -56,11 +56,11 @@ linesFrom rows (suc n) i = line (take invocationWidth (drop (i * invocationWidth
 
 -- what is printed of an answer and the rows of table 1
 unfoldable pub listed : Answer → List ℕ → List ℕ
-listed a rows = cond (eqb (a .number) 0) (head a ++ linesFrom rows (a .invocations) 0) (refused (a .number) (a .place))
+listed a rows = cond (eqb (a .number) 0) (head a ++ linesFrom rows (a .invocations) 0) (refusalLine (a .number) (a .place))
 
 -- the lent tables: room for 256, 1,024, 400, 250 and 500 rows
-abbrev pub room : Lent
-room =
+abbrev pub lentRoom : Lent
+lentRoom =
     record {
       mints = 256 * mintWidth;
       invocations = 1024 * invocationWidth;
@@ -71,4 +71,4 @@ room =
 
 -- the listing of an input: 88 bytes of names, and the rest is the pack
 unfoldable pub listing : List ℕ → List ℕ
-listing input = let r = route (take 88 input) (drop 88 input) room in listed (r .answer) (r .invocations)
+listing input = let r = route (take 88 input) (drop 88 input) lentRoom in listed (r .answer) (r .invocations)

@@ -1,7 +1,8 @@
-// The printed listing of names and a pack, as bytes in a lent slice.
+// The printed listing of names and a pack, as bytes in a lent slice, and what the programs do with it.
 //
-// Proved: which bytes they are, how many, and that 65,536 hold every listing. A program has only to read the input and to write them out; that is tested, since
-// no contract can speak of what is read or written.
+// Proved: which bytes they are, how many, and that 65,536 hold every listing. `print` reads the input and writes them out; that is tested, since no contract
+// can speak of what is read or written.
+use libc::STDOUT_FILENO;
 use route::Answer;
 use route::width;
 ghost use mathlib.Core.Path.{_≡_};
@@ -10,15 +11,15 @@ ghost use lib.ListN.{length, take, drop};
 ghost use Rattle.route.specs.Widths.{invocationWidth};
 ghost use Rattle.listing.specs.Decimal.{decimal};
 ghost use Rattle.listing.specs.Listing.{linesFrom, listing};
-ghost use Rattle.listing.specs.Listing.{field as Listing·field, named as Listing·named, refused as Listing·refused, counts as Listing·counts};
+ghost use Rattle.listing.specs.Listing.{spaced, wordNumber, refusalLine, counts as Listing·counts};
 ghost use Rattle.listing.specs.Listing.{head as Listing·head, optional as Listing·optional, position as Listing·position, line as Listing·line};
 ghost use Rattle.listing.specs.Listing.{listed as Listing·listed};
-ghost use Rattle.listing.specs.Puts.{Puts};
+ghost use Rattle.listing.specs.Puts.{PutsText};
 
 // Puts a word at a place, and answers the place behind it, as all writers here do. They ask that the place is not far, so that no sum is too large.
 fn word(out: &mut [u8], at: usize, text: &[u8]) -> usize
     requires { ⌜ at ≤ 65536 ⌝ }
-    ensures { λ r. ⌜ Puts (length (now (text .entry))) (now (out .entry)) at (now (text .entry)) (now (out .exit)) r ⌝ }
+    ensures { λ r. ⌜ PutsText (length (now (text .entry))) (now (out .entry)) at (now (text .entry)) (now (out .exit)) r ⌝ }
 {
     wire::put(out, at, text);
     at + text.len()
@@ -27,7 +28,7 @@ fn word(out: &mut [u8], at: usize, text: &[u8]) -> usize
 // A number in decimal.
 fn number(out: &mut [u8], at: usize, n: u32) -> usize
     requires { ⌜ at ≤ 65536 ⌝ }
-    ensures { λ r. ⌜ Puts 10 (now (out .entry)) at (decimal n) (now (out .exit)) r ⌝ }
+    ensures { λ r. ⌜ PutsText 10 (now (out .entry)) at (decimal n) (now (out .exit)) r ⌝ }
 {
     let mut digits = [0u8; 20];
     let k = io::decimal(n as u64, &mut digits);
@@ -37,7 +38,7 @@ fn number(out: &mut [u8], at: usize, n: u32) -> usize
 // A number with a space in front.
 fn field(out: &mut [u8], at: usize, n: u32) -> usize
     requires { ⌜ at ≤ 65535 ⌝ }
-    ensures { λ r. ⌜ Puts 11 (now (out .entry)) at (Listing·field n) (now (out .exit)) r ⌝ }
+    ensures { λ r. ⌜ PutsText 11 (now (out .entry)) at (spaced n) (now (out .exit)) r ⌝ }
 {
     let next = word(out, at, b" ");
     number(out, next, n)
@@ -47,7 +48,7 @@ fn field(out: &mut [u8], at: usize, n: u32) -> usize
 fn named(out: &mut [u8], at: usize, text: &[u8], n: u32) -> usize
     requires { ⌜ at ≤ 60000 ⌝ }
     requires { ⌜ length (now text) ≤ 7 ⌝ }
-    ensures { λ r. ⌜ Puts (length (now (text .entry)) + 11) (now (out .entry)) at (Listing·named (now (text .entry)) n) (now (out .exit)) r ⌝ }
+    ensures { λ r. ⌜ PutsText (length (now (text .entry)) + 11) (now (out .entry)) at (wordNumber (now (text .entry)) n) (now (out .exit)) r ⌝ }
 {
     let next = word(out, at, text);
     field(out, next, n)
@@ -55,7 +56,7 @@ fn named(out: &mut [u8], at: usize, text: &[u8], n: u32) -> usize
 
 // A refusal: its number and its place.
 fn refused(out: &mut [u8], number: u32, place: u32) -> usize
-    ensures { λ r. ⌜ Puts 30 (now (out .entry)) 0 (Listing·refused number place) (now (out .exit)) r ⌝ }
+    ensures { λ r. ⌜ PutsText 30 (now (out .entry)) 0 (refusalLine number place) (now (out .exit)) r ⌝ }
 {
     let mut at = named(out, 0, b"refused", number);
     at = field(out, at, place);
@@ -65,7 +66,7 @@ fn refused(out: &mut [u8], number: u32, place: u32) -> usize
 // The rows of each table.
 fn counts(out: &mut [u8], from: usize, a: Answer) -> usize
     requires { ⌜ from ≤ 60000 ⌝ }
-    ensures { λ r. ⌜ Puts 55 (now (out .entry)) from (Listing·counts a) (now (out .exit)) r ⌝ }
+    ensures { λ r. ⌜ PutsText 55 (now (out .entry)) from (Listing·counts a) (now (out .exit)) r ⌝ }
 {
     let mut at = field(out, from, a.mints);
     at = field(out, at, a.invocations);
@@ -76,7 +77,7 @@ fn counts(out: &mut [u8], from: usize, a: Answer) -> usize
 
 // The first line of a success: the rows of each table, the passes, the tests.
 fn head(out: &mut [u8], a: Answer) -> usize
-    ensures { λ r. ⌜ Puts 93 (now (out .entry)) 0 (Listing·head a) (now (out .exit)) r ⌝ }
+    ensures { λ r. ⌜ PutsText 93 (now (out .entry)) 0 (Listing·head a) (now (out .exit)) r ⌝ }
 {
     let mut at = word(out, 0, b"ok");
     at = counts(out, at, a);
@@ -89,7 +90,7 @@ fn head(out: &mut [u8], a: Answer) -> usize
 fn optional(out: &mut [u8], at: usize, row: &[u8], flag: usize) -> usize
     requires { ⌜ at ≤ 60000 ⌝ }
     requires { ⌜ flag ≤ 9 ⌝ }
-    ensures { λ r. ⌜ Puts 11 (now (out .entry)) at (Listing·optional (now (row .entry)) flag) (now (out .exit)) r ⌝ }
+    ensures { λ r. ⌜ PutsText 11 (now (out .entry)) at (Listing·optional (now (row .entry)) flag) (now (out .exit)) r ⌝ }
 {
     if wire::byte(row, flag) == 0 {
         return word(out, at, b" -");
@@ -100,7 +101,7 @@ fn optional(out: &mut [u8], at: usize, row: &[u8], flag: usize) -> usize
 // Where an invocation stands: outer, inner, height.
 fn position(out: &mut [u8], from: usize, row: &[u8]) -> usize
     requires { ⌜ from ≤ 59900 ⌝ }
-    ensures { λ r. ⌜ Puts 32 (now (out .entry)) from (Listing·position (now (row .entry))) (now (out .exit)) r ⌝ }
+    ensures { λ r. ⌜ PutsText 32 (now (out .entry)) from (Listing·position (now (row .entry))) (now (out .exit)) r ⌝ }
 {
     let mut at = number(out, from, wire::u32_at(row, 0));
     at = optional(out, at, row, 4);
@@ -110,7 +111,7 @@ fn position(out: &mut [u8], from: usize, row: &[u8]) -> usize
 // An invocation: where it stands, its end, its bits.
 fn line(out: &mut [u8], from: usize, row: &[u8]) -> usize
     requires { ⌜ from ≤ 59900 ⌝ }
-    ensures { λ r. ⌜ Puts 55 (now (out .entry)) from (Listing·line (now (row .entry))) (now (out .exit)) r ⌝ }
+    ensures { λ r. ⌜ PutsText 55 (now (out .entry)) from (Listing·line (now (row .entry))) (now (out .exit)) r ⌝ }
 {
     let mut at = position(out, from, row);
     at = field(out, at, wire::u32_at(row, 14));
@@ -123,7 +124,7 @@ fn lines(out: &mut [u8], from: usize, rows: &[u8], n: usize) -> usize
     requires { ⌜ from ≤ 93 ⌝ }
     requires { ⌜ n ≤ 1024 ⌝ }
     requires { ⌜ n * invocationWidth ≤ length (now rows) ⌝ }
-    ensures { λ r. ⌜ Puts 56320 (now (out .entry)) from (linesFrom (now (rows .entry)) n 0) (now (out .exit)) r ⌝ }
+    ensures { λ r. ⌜ PutsText 56320 (now (out .entry)) from (linesFrom (now (rows .entry)) n 0) (now (out .exit)) r ⌝ }
 {
     let mut at = from;
     let mut i = 0;
@@ -139,7 +140,7 @@ fn lines(out: &mut [u8], from: usize, rows: &[u8], n: usize) -> usize
 fn listed(out: &mut [u8], a: Answer, rows: &[u8]) -> usize
     requires { ⌜ a .invocations ≤ 1024 ⌝ }
     requires { ⌜ a .invocations * invocationWidth ≤ length (now rows) ⌝ }
-    ensures { λ r. ⌜ Puts 65536 (now (out .entry)) 0 (Listing·listed a (now (rows .entry))) (now (out .exit)) r ⌝ }
+    ensures { λ r. ⌜ PutsText 65536 (now (out .entry)) 0 (Listing·listed a (now (rows .entry))) (now (out .exit)) r ⌝ }
 {
     if a.number != 0 {
         return refused(out, a.number, a.place);
@@ -160,7 +161,7 @@ fn names_end(input: &[u8]) -> usize
 
 // The listing of the names and the pack that the input is, and its length. Bytes past the end of `out` are dropped, and those behind the listing stay.
 pub fn list(input: &[u8], out: &mut [u8]) -> usize
-    ensures { λ r. ⌜ Puts 65536 (now (out .entry)) 0 (listing (now (input .entry))) (now (out .exit)) r ⌝ }
+    ensures { λ r. ⌜ PutsText 65536 (now (out .entry)) 0 (listing (now (input .entry))) (now (out .exit)) r ⌝ }
 {
     let mut mints = [0u8; 256 * width::MINTS];
     let mut invocations = [0u8; 1024 * width::INVOCATIONS];
@@ -178,4 +179,13 @@ pub fn list(input: &[u8], out: &mut [u8]) -> usize
         &mut natives,
     );
     listed(out, a, &invocations)
+}
+
+// Prints the listing of what a file holds. It reads one byte more than the names and the longest pack have, so that a longer input is told from the longest.
+pub fn print(fd: i32) {
+    let mut input = [0u8; 61529];
+    let n = io::read_full(fd, &mut input);
+    let mut text = io::large_buffer();
+    let k = list(&input[..n], &mut text);
+    io::write_all(STDOUT_FILENO, &text[..k]);
 }

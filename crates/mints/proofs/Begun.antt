@@ -1,4 +1,4 @@
--- The table before any evidence: all keys have their rows, and no row has a mint.
+-- The table before any evidence: all keys have their rows, and no row has a mint, because a table of zeros has none and laying a key writes none.
 -- Assumes nothing.
 use mathlib.Core.Path.{_≡_, refl, sym, ap, _∙_}
 use mathlib.Core.Logic.{by-cases}
@@ -14,10 +14,10 @@ use Rattle.wire.proofs.Zeros.{zeros-at}
 use Rattle.ids.specs.Keys.{Key, zeroKey}
 use Rattle.evidence.specs.Table.{lookup}
 use Rattle.mints.specs.Bytes.{mintWidth}
-use Rattle.mints.specs.Cells.{accountAt, stateAt, held, firstRow, withState}
-use Rattle.mints.specs.Lay.{Laid, layAt, layKey, layTo, laid}
+use Rattle.mints.specs.Cells.{accountAt, stateAt, stateSays, firstRow, withState}
+use Rattle.mints.specs.Lay.{KeyRows, layAt, layKey, layTo, laid}
 use Rattle.mints.proofs.Fields.{account-state, state-here, state-other, length-state}
-use Rattle.mints.proofs.Holding.{Apart, Holds}
+use Rattle.mints.proofs.Holding.{RowsApart, HoldsRows}
 use Rattle.mints.proofs.Laid.{Rows, laid-next}
 
 zero-account : (n : ℕ) → 32 ≤ n → accountAt (zeros n) 0 ≡ zeroKey
@@ -64,7 +64,7 @@ laid-rows κ long size wide (suc i) h r =
     r
 
 -- each key index has its row, also past the keys, where the key is zero
-pub row-right : {κ : ℕ → Key} {size c : ℕ} {s : Laid} → Rows κ size c s → ((j : ℕ) → c ≤ j → κ j ≡ zeroKey) → (j : ℕ) → (getD (s .row) j 0 < s .rows) × (accountAt (s .table) (getD (s .row) j 0) ≡ κ j)
+pub row-right : {κ : ℕ → Key} {size c : ℕ} {s : KeyRows} → Rows κ size c s → ((j : ℕ) → c ≤ j → κ j ≡ zeroKey) → (j : ℕ) → (getD (s .row) j 0 < s .rows) × (accountAt (s .table) (getD (s .row) j 0) ≡ κ j)
 row-right {c} h z j =
     by-cases
     (decLt j c)
@@ -72,11 +72,11 @@ row-right {c} h z j =
     (λ (l : ¬ (j < c)). rw (h .rest j (omega arith)) (h .some-row, h .zero-row ∙ sym (z j (omega arith))))
 
 -- the rows have different accounts, and no mints
-pub laid-apart : {κ : ℕ → Key} {size c : ℕ} {s : Laid} → Rows κ size c s → Apart (s .rows) (accountAt (s .table))
+pub laid-apart : {κ : ℕ → Key} {size c : ℕ} {s : KeyRows} → Rows κ size c s → RowsApart (s .rows) (accountAt (s .table))
 laid-apart h = record { some-row = h .some-row; zero-row = h .zero-row; apart = λ r q. h .apart r q }
 
-pub laid-holds : {κ : ℕ → Key} {size c : ℕ} {s : Laid} → Rows κ size c s → suc c * mintWidth ≤ size → Holds 2 (s .rows) (accountAt (s .table)) (s .table) []
-unfolding held lookup
+pub laid-holds : {κ : ℕ → Key} {size c : ℕ} {s : KeyRows} → Rows κ size c s → suc c * mintWidth ≤ size → HoldsRows 2 (s .rows) (accountAt (s .table)) (s .table) []
+unfolding stateSays lookup
 laid-holds {s} h r =
     record {
       long = omega (arith, h .few, h .whole);

@@ -1,4 +1,5 @@
--- The instructions: what they record is noted, and their plain transfers stand in two lists of row numbers.
+-- The instructions: what they record is noted, and their plain transfers stand in two lists of row numbers; each instruction adds to both what its definition
+-- says.
 -- Assumes nothing.
 use mathlib.Core.Path.{_≡_, refl, sym, ap, _∙_}
 use mathlib.Core.Logic.{by-cases}
@@ -20,11 +21,11 @@ use Rattle.evidence.specs.Passes.{Transfers}
 use Rattle.evidence.specs.Gather.{gather}
 use Rattle.evidence.proofs.Loops.{gather-take, noteAll-append}
 use Rattle.mints.specs.Note.{Noted}
-use Rattle.mints.specs.Gather.{rowOf, isPlain, tokenAt, Gathered, gatherAt, gatherTo}
+use Rattle.mints.specs.Gather.{rowOfAccount, isPlain, tokenAt, Gathered, gatherAt, gatherTo}
 use Rattle.mints.specs.Inference.{says, moves}
 use Rattle.ids.proofs.Keys.{key-length}
 use Rattle.mints.proofs.Pieces.{pieces, moved, records-read, plain-read}
-use Rattle.mints.proofs.Holding.{Apart}
+use Rattle.mints.proofs.Holding.{RowsApart}
 use Rattle.mints.proofs.Stepped.{pairsTo}
 use Rattle.mints.proofs.Observed.{Notes, Indexed, row-account, observes}
 
@@ -66,7 +67,7 @@ quiet {ps} h k =
       to-size = h .to-size;
     }
 
-module _ {n : ℕ} {α κ : ℕ → Key} (p : Apart n α) (long : (j : ℕ) → length (κ j) ≡ 32) (row : List ℕ) (at : Indexed n α κ row) where
+module _ {n : ℕ} {α κ : ℕ → Key} (p : RowsApart n α) (long : (j : ℕ) → length (κ j) ≡ 32) (row : List ℕ) (at : Indexed n α κ row) where
   -- one instruction more
   collect : (size : ℕ) (token : Token) (a : List ℕ) (g : Gathered) (t : Table) (ps : Transfers) → g .count < size → Collected n α size g t ps
       → Collected n α size (gatherAt κ row token a g) (noteAll t (pieces κ token a)) (ps ++ moved κ token a)
@@ -82,11 +83,11 @@ module _ {n : ℕ} {α κ : ℕ → Key} (p : Apart n α) (long : (j : ℕ) → 
       let j : g .count < length (g .to) = omega (arith, h .to-size) in
       record {
         notes = observes p long row at (Plain k) a (g .noted) t (h .notes);
-        pairs = pairs-more α (g .from) (g .to) (g .count) (rowOf row a 0) (rowOf row a 1) i j ∙ rw (h .pairs, x .1, y .1);
-        sources = λ m. set-below n (g .from) (g .count) (rowOf row a 0) i (x .0) (h .sources) m;
-        targets = λ m. set-below n (g .to) (g .count) (rowOf row a 1) j (y .0) (h .targets) m;
-        from-size = length-set (g .from) (g .count) (rowOf row a 0) ∙ h .from-size;
-        to-size = length-set (g .to) (g .count) (rowOf row a 1) ∙ h .to-size;
+        pairs = pairs-more α (g .from) (g .to) (g .count) (rowOfAccount row a 0) (rowOfAccount row a 1) i j ∙ rw (h .pairs, x .1, y .1);
+        sources = λ m. set-below n (g .from) (g .count) (rowOfAccount row a 0) i (x .0) (h .sources) m;
+        targets = λ m. set-below n (g .to) (g .count) (rowOfAccount row a 1) j (y .0) (h .targets) m;
+        from-size = length-set (g .from) (g .count) (rowOfAccount row a 0) ∙ h .from-size;
+        to-size = length-set (g .to) (g .count) (rowOfAccount row a 1) ∙ h .to-size;
       }
 
 -- at most one transfer more
@@ -125,7 +126,7 @@ module _ (ks p offsets : List ℕ) (i : ℕ) (h : i < length offsets) where
       ∙ ap (λ (l : List Row). gather (moves (keyOf ks) (programAt ks)) (take i (instructions p offsets)) ++ l) (ap (moves (keyOf ks) (programAt ks)) instruction-is ∙ plain-read (keyOf ks) (programAt ks (instructionAt p (getD offsets i 0) .program)) (instructionAt p (getD offsets i 0) .accounts) (instructionAt p (getD offsets i 0) .bytes))
 
 -- all instructions
-pub collected : {n : ℕ} {α : ℕ → Key} → Apart n α → (ks p offsets row : List ℕ) → Indexed n α (keyOf ks) row → (size : ℕ) (g : Gathered) (t : Table) → g .count ≡ 0 → Collected n α size g t [] → (i : ℕ) → i ≤ length offsets → i ≤ size
+pub collected : {n : ℕ} {α : ℕ → Key} → RowsApart n α → (ks p offsets row : List ℕ) → Indexed n α (keyOf ks) row → (size : ℕ) (g : Gathered) (t : Table) → g .count ≡ 0 → Collected n α size g t [] → (i : ℕ) → i ≤ length offsets → i ≤ size
     → Collected n α size (gatherTo ks p offsets row g i) (noteAll t (gather (says (keyOf ks) (programAt ks)) (take i (instructions p offsets)))) (gather (moves (keyOf ks) (programAt ks)) (take i (instructions p offsets)))
 unfolding gatherTo gather noteAll
 collected q ks p offsets row at size g t z h zero l m = h

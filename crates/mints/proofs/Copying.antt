@@ -1,4 +1,4 @@
--- A mint copied from row to row, byte by byte.
+-- A mint copied from row to row, byte by byte: the rows differ, so the copy never reaches the bytes that it reads.
 -- Assumes nothing.
 use mathlib.Core.Path.{_≡_}
 use mathlib.Core.Logic.{_≢_, by-cases}

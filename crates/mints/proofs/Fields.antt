@@ -1,4 +1,4 @@
--- What a store in one row of the table leaves of every row.
+-- What a store in one row of the table leaves of every row: the bytes of a field are read where nothing is stored, or are the stored ones.
 -- Assumes nothing.
 use mathlib.Core.Path.{_≡_, sym, _∙_}
 use mathlib.Core.Logic.{_≢_, _⊎_, inl, inr, ⊎-elim, by-cases}

@@ -12,26 +12,26 @@ use Rattle.ids.specs.Keys.{Key, zeroKey}
 use Rattle.evidence.proofs.Keys.{key?}
 use Rattle.evidence.specs.Table.{Table, lookup}
 use Rattle.mints.specs.Bytes.{mintWidth}
-use Rattle.mints.specs.Cells.{accountAt, mintAt, stateAt, held, withMint, withState}
+use Rattle.mints.specs.Cells.{accountAt, mintAt, stateAt, stateSays, withMint, withState}
 use Rattle.mints.proofs.Fields.{account-state, mint-state, state-other, length-state, account-mint, mint-other, states-other, length-mint}
 
 -- n rows with different accounts, the zero key's first
-pub record Apart (n : ℕ) (α : ℕ → Key) : Type 0 where
+pub record RowsApart (n : ℕ) (α : ℕ → Key) : Type 0 where
   pub some-row : 0 < n
   pub zero-row : α 0 ≡ zeroKey
   pub apart : (r q : ℕ) → r < n → q < n → α r ≡ α q → r ≡ q
 
 -- no other row is the zero key's
-pub not-zero : {n : ℕ} {α : ℕ → Key} → Apart n α → (r : ℕ) → 0 < r → r < n → α r ≢ zeroKey
+pub not-zero : {n : ℕ} {α : ℕ → Key} → RowsApart n α → (r : ℕ) → 0 < r → r < n → α r ≢ zeroKey
 not-zero p r h k e = let z : r ≡ 0 = p .apart r 0 k (p .some-row) (e ∙ sym (p .zero-row)) in omega arith
 
 -- the rows of t, as states up to b and mints
-pub record Holds (b n : ℕ) (α : ℕ → Key) (w : List ℕ) (t : Table) : Type 0 where
+pub record HoldsRows (b n : ℕ) (α : ℕ → Key) (w : List ℕ) (t : Table) : Type 0 where
   pub long : n * mintWidth ≤ length w
   pub account : (r : ℕ) → r < n → accountAt w r ≡ α r
   pub first : stateAt w 0 ≡ 1
   pub low : (r : ℕ) → r < n → stateAt w r ≤ b
-  pub said : (r : ℕ) → 0 < r → r < n → lookup t (α r) ≡ held (stateAt w r) (mintAt w r)
+  pub said : (r : ℕ) → 0 < r → r < n → lookup t (α r) ≡ stateSays (stateAt w r) (mintAt w r)
   pub mint : (r : ℕ) → r < n → 1 < stateAt w r → mintAt w r ≢ zeroKey
   pub cover : (a m : Key) → lookup t a ≡ some m → (r : ℕ) × (0 < r) × (r < n) × (α r ≡ a)
 
@@ -69,12 +69,12 @@ changed-mint w r m s e =
     }
 
 -- a change of row r, for which u differs from t at the row's account alone
-pub update : {b n : ℕ} {α : ℕ → Key} {w v : List ℕ} {t u : Table} → Apart n α → Holds b n α w t → (r : ℕ) → 0 < r → r < n → Changed w v r
+pub update : {b n : ℕ} {α : ℕ → Key} {w v : List ℕ} {t u : Table} → RowsApart n α → HoldsRows b n α w t → (r : ℕ) → 0 < r → r < n → Changed w v r
     → ((a : Key) → a ≢ α r → lookup u a ≡ lookup t a)
-    → lookup u (α r) ≡ held (stateAt v r) (mintAt v r)
+    → lookup u (α r) ≡ stateSays (stateAt v r) (mintAt v r)
     → (1 < stateAt v r → mintAt v r ≢ zeroKey)
     → stateAt v r ≤ b
-    → Holds b n α v u
+    → HoldsRows b n α v u
 update {b} {n} {α} {w} {v} {t} {u} p h r z l c other here mint low =
     record {
       long = rw (c .length) (h .long);

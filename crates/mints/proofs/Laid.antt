@@ -1,4 +1,5 @@
--- The rows of the keys: one for each distinct key, the zero key's first, and each key index has its row.
+-- The rows of the keys: one for each distinct key, the zero key's first, and each key index has its row; the search finds a key that has one, so no key gets
+-- two.
 -- Assumes nothing.
 use mathlib.Core.Path.{_≡_, refl, sym, ap, _∙_}
 use mathlib.Core.Logic.{_≢_, inl, by-cases}
@@ -15,8 +16,8 @@ use Rattle.wire.proofs.Same.{same-true, same-eq}
 use Rattle.wire.proofs.Sets.{sets-before, sets-after}
 use Rattle.ids.specs.Keys.{Key, zeroKey}
 use Rattle.mints.specs.Bytes.{mintWidth}
-use Rattle.mints.specs.Cells.{accountAt, stateAt, firstFrom}
-use Rattle.mints.specs.Lay.{Laid, layAt, layKey}
+use Rattle.mints.specs.Cells.{accountAt, stateAt, firstRowFrom}
+use Rattle.mints.specs.Lay.{KeyRows, layAt, layKey}
 use Rattle.mints.proofs.Fields.{window, stored}
 
 -- a search finds a row with the key, or comes to the end because no row has it
@@ -24,8 +25,8 @@ pub data Found (t : List ℕ) (k : Key) (i f : ℕ) (r : ℕ) : Type 0 where
   there : r < i + f → accountAt t r ≡ k → Found t k i f r
   nowhere : r ≡ i + f → ((q : ℕ) → i ≤ q → q < i + f → accountAt t q ≢ k) → Found t k i f r
 
-found : (t : List ℕ) (k : Key) (f i : ℕ) → Found t k i f (firstFrom t k f i)
-unfolding firstFrom
+found : (t : List ℕ) (k : Key) (f i : ℕ) → Found t k i f (firstRowFrom t k f i)
+unfolding firstRowFrom
 found t k zero i = nowhere (omega arith) (λ q a b. absurd (omega arith))
 found t k (suc f) i = go (same (accountAt t i) k) refl (found t k f (suc i))
   where
@@ -33,12 +34,12 @@ found t k (suc f) i = go (same (accountAt t i) k) refl (found t k f (suc i))
     later n (there h e) = there (omega arith) e
     later n (nowhere e g) = nowhere (omega arith) (λ q a b. by-cases (ℕ-discrete q i) (λ z. rw z n) (λ z. g q (omega arith) (omega arith)))
 
-    go : (b : Bool) → same (accountAt t i) k ≡ b → Found t k (suc i) f (firstFrom t k f (suc i)) → Found t k i (suc f) (cond b i (firstFrom t k f (suc i)))
+    go : (b : Bool) → same (accountAt t i) k ≡ b → Found t k (suc i) f (firstRowFrom t k f (suc i)) → Found t k i (suc f) (cond b i (firstRowFrom t k f (suc i)))
     go true e g = there (omega arith) (same-true (accountAt t i) k e)
     go false e g = later (λ z. absurd (false≢true (sym e ∙ same-eq z))) g
 
 -- the first i keys have their rows
-pub record Rows (κ : ℕ → Key) (size i : ℕ) (s : Laid) : Type 0 where
+pub record Rows (κ : ℕ → Key) (size i : ℕ) (s : KeyRows) : Type 0 where
   pub whole : length (s .table) ≡ size
   pub few : s .rows ≤ suc i
   pub some-row : 0 < s .rows
@@ -49,7 +50,7 @@ pub record Rows (κ : ℕ → Key) (size i : ℕ) (s : Laid) : Type 0 where
   pub row : (j : ℕ) → j < i → (getD (s .row) j 0 < s .rows) × (accountAt (s .table) (getD (s .row) j 0) ≡ κ j)
   pub rest : (j : ℕ) → i ≤ j → getD (s .row) j 0 ≡ 0
 
-module _ (κ : ℕ → Key) (long : (j : ℕ) → length (κ j) ≡ 32) (size i : ℕ) (s : Laid) (h : Rows κ size i s) (k : i < length (s .row)) (room : suc (suc i) * mintWidth ≤ size) where
+module _ (κ : ℕ → Key) (long : (j : ℕ) → length (κ j) ≡ 32) (size i : ℕ) (s : KeyRows) (h : Rows κ size i s) (k : i < length (s .row)) (room : suc (suc i) * mintWidth ≤ size) where
   -- a key that has a row
   old : (r : ℕ) → r < s .rows → accountAt (s .table) r ≡ κ i → Rows κ size (suc i) (layAt s i (κ i) r)
   unfolding layAt

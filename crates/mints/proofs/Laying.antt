@@ -1,4 +1,4 @@
--- One key more in the table.
+-- One key more in the table: a search and what is stored after it are one step of the definition, and the last bytes of all rows stay marked.
 -- Assumes nothing.
 use mathlib.Core.Path.{_≡_, refl, sym, ap, _∙_}
 use mathlib.Core.Logic.{_≢_}
@@ -14,11 +14,11 @@ use lib.Seq.{sets, getD-set-same, getD-set-other}
 use Rattle.wire.proofs.Sets.{sets-before, sets-in}
 use Rattle.ids.specs.Keys.{Key}
 use Rattle.mints.specs.Bytes.{mintWidth}
-use Rattle.mints.specs.Cells.{firstRow, Ends}
-use Rattle.mints.specs.Lay.{Laid, layAt, layKey, layTo}
+use Rattle.mints.specs.Cells.{firstRow, LastBytesSeen}
+use Rattle.mints.specs.Lay.{KeyRows, layAt, layKey, layTo}
 
 -- a search and what follows from it
-pub lay-next : (κ : ℕ → Key) (t row : List ℕ) (i : ℕ) (s : Laid) {k : Key} {r n : ℕ} {u : List ℕ} → layTo κ t row i ≡ s → k ≡ κ i → r ≡ firstRow (s .table) k (s .rows)
+pub lay-next : (κ : ℕ → Key) (t row : List ℕ) (i : ℕ) (s : KeyRows) {k : Key} {r n : ℕ} {u : List ℕ} → layTo κ t row i ≡ s → k ≡ κ i → r ≡ firstRow (s .table) k (s .rows)
     → u ≡ cond (eqb r (s .rows)) (sets (s .table) (r * mintWidth) k) (s .table)
     → n ≡ cond (eqb r (s .rows)) (suc (s .rows)) (s .rows)
     → layTo κ t row (i + 1) ≡ record { table = u; row = set (s .row) i r; rows = n }
@@ -42,16 +42,16 @@ marked ends b x h f e = go (eqb x b) refl
     go false q = f (eqb-false x b q) (sym (getD-set-other ends b x 1 0 (eqb-false x b q)) ∙ e)
 
 -- the last byte of row 0
-pub ends-first : (t ends : List ℕ) {b : ℕ} → b ≡ getD t 31 0 → b < length ends → Ends t 1 (set ends b 1)
+pub ends-first : (t ends : List ℕ) {b : ℕ} → b ≡ getD t 31 0 → b < length ends → LastBytesSeen t 1 (set ends b 1)
 ends-first t ends {b} e h r l =
     let z : r * mintWidth + 31 ≡ 31 = omega arith in
     marked ends b _ h (λ n. absurd (n (ap (λ (y : ℕ). getD t y 0) z ∙ sym e)))
 
 -- and of one key more
-pub ends-more : (t k ends : List ℕ) (n r : ℕ) {b m : ℕ} {u : List ℕ} → Ends t n ends → length k ≡ 32 → suc n * mintWidth ≤ length t → b ≡ getD k 31 0 → b < length ends
+pub ends-more : (t k ends : List ℕ) (n r : ℕ) {b m : ℕ} {u : List ℕ} → LastBytesSeen t n ends → length k ≡ 32 → suc n * mintWidth ≤ length t → b ≡ getD k 31 0 → b < length ends
     → u ≡ cond (eqb r n) (sets t (r * mintWidth) k) t
     → m ≡ cond (eqb r n) (suc n) n
-    → Ends u m (set ends b 1)
+    → LastBytesSeen u m (set ends b 1)
 ends-more t k ends n r {b} f w fits e h hu hm = rw (hu, hm) (go (eqb r n) refl)
   where
     old : (q : ℕ) → q < n → r ≡ n → getD (set ends b 1) (getD (sets t (r * mintWidth) k) (q * mintWidth + 31) 0) 0 ≢ 0
@@ -66,6 +66,6 @@ ends-more t k ends n r {b} f w fits e h hu hm = rw (hu, hm) (go (eqb r n) refl)
         let g = ltb-false q n z in
         new q (omega arith) s
 
-    go : (c : Bool) → eqb r n ≡ c → Ends (cond c (sets t (r * mintWidth) k) t) (cond c (suc n) n) (set ends b 1)
+    go : (c : Bool) → eqb r n ≡ c → LastBytesSeen (cond c (sets t (r * mintWidth) k) t) (cond c (suc n) n) (set ends b 1)
     go true s q l = among q l (eqb-true r n s) (ltb q n) refl
     go false s q l = marked ends b _ h (λ _. f q l)

@@ -1,4 +1,5 @@
--- When the passes are over: what the final table says of a row, and the rows that transfers mark.
+-- When the passes are over: what the final table says of a row, and the rows that transfers mark; a mark changes no mint, so each transfer sees the mints
+-- that the final table has.
 -- Assumes nothing.
 use mathlib.Core.Path.{_≡_, refl, sym, ap, _∙_}
 use mathlib.Core.Logic.{by-cases}
@@ -22,10 +23,10 @@ use Rattle.evidence.specs.Marks.{differ, opposes, opposed}
 use Rattle.evidence.proofs.Lookups.{known, known-mint, known-zero, final-lookup, zero-lacks}
 use Rattle.evidence.proofs.Marking.{opposed-append, opposes-none, opposes-source, opposes-target, opposes-other}
 use Rattle.mints.specs.Bytes.{mintWidth}
-use Rattle.mints.specs.Cells.{accountAt, mintAt, stateAt, held}
+use Rattle.mints.specs.Cells.{accountAt, mintAt, stateAt, stateSays}
 use Rattle.mints.specs.Pass.{differAt, doubtAt, doubtsTo}
 use Rattle.mints.proofs.States.{marked, marked-mint, marked-again, marked-still, doubt-here, doubt-other, doubt-account, doubt-mint, doubt-length}
-use Rattle.mints.proofs.Holding.{Apart, Holds}
+use Rattle.mints.proofs.Holding.{RowsApart, HoldsRows}
 use Rattle.mints.proofs.Stepped.{pairsTo}
 
 -- one transfer more
@@ -44,9 +45,9 @@ pub record Marked (n : ℕ) (α : ℕ → Key) (t : Table) (ps : Transfers) (w v
 pub has-mint : {n : ℕ} {α : ℕ → Key} {t : Table} {ps : Transfers} {w v : List ℕ} → Marked n α t ps w v → (r : ℕ) → r < n → ltb 1 (stateAt v r) ≡ ltb 1 (stateAt w r)
 has-mint {α} {t} {ps} {w} m r k = rw (m .state r k) (marked-mint (stateAt w r) (opposed (final t) ps (α r)))
 
-module _ {n : ℕ} {α : ℕ → Key} {e : Evidence} {ps : Transfers} {t : Table} (p : Apart n α) (s : Settled e ps t) {w : List ℕ} (h : Holds 3 n α w t) where
+module _ {n : ℕ} {α : ℕ → Key} {e : Evidence} {ps : Transfers} {t : Table} (p : RowsApart n α) (s : Settled e ps t) {w : List ℕ} (h : HoldsRows 3 n α w t) where
   by-state : (r : ℕ) → 0 < r → r < n → (x : ℕ) → stateAt w r ≡ x → lookup (final t) (α r) ≡ cond (ltb 1 x) (some (mintAt w r)) none
-  unfolding held known
+  unfolding stateSays known
   by-state r z k zero q = final-lookup (settled-distinct s) (α r) ∙ rw (h .said r z k, q)
   by-state r z k (suc zero) q = final-lookup (settled-distinct s) (α r) ∙ rw (h .said r z k, q) known-zero
   by-state r z k (suc (suc x)) q =
@@ -96,9 +97,6 @@ module _ {n : ℕ} {α : ℕ → Key} {e : Evidence} {ps : Transfers} {t : Table
           state = λ r j. state r j ∙ sym (rw (opposed-snoc (final t) qs (α a, α b) (α r)));
         }
       where
-        o : ℕ → Bool
-        o r = opposed (final t) qs (α r)
-
         differs : differ (lookup (final t) (α a)) (lookup (final t) (α b)) ≡ true
         differs = sym (differ-rows a b k l) ∙ d
 

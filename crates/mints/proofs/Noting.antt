@@ -1,4 +1,4 @@
--- The ways through a note of evidence, and one balance row more.
+-- The ways through a note of evidence, each by the tests that lead there, and one balance row more.
 -- Assumes nothing.
 use mathlib.Core.Path.{_≡_, refl}
 use mathlib.Core.Logic.{_≢_}
@@ -14,7 +14,7 @@ use Rattle.wire.specs.Le.{le}
 use Rattle.wire.specs.Same.{same}
 use Rattle.ids.specs.Keys.{Key, zeroKey, account}
 use Rattle.mints.specs.Cells.{mintAt, stateAt, withMint, withState}
-use Rattle.mints.specs.Gather.{rowOf, noteAccount}
+use Rattle.mints.specs.Gather.{rowOfAccount, noteAccount}
 use Rattle.mints.specs.Note.{recordAt, newAt, Noted, noteAt, balancesTo}
 
 module _ (t : List ℕ) (r : ℕ) (m : Key) where
@@ -61,4 +61,4 @@ balance-next s row t i e = rw (add-one i, e)
 -- a note records at most one account more
 pub one-more : (κ : ℕ → Key) (row accounts : List ℕ) (x : Noted) (i : ℕ) → noteAccount κ row accounts x i .room ≤ x .room + 1
 unfolding noteAccount noteAt
-one-more κ row accounts x i = omega (arith, one-new (x .table) (rowOf row accounts i) (account κ accounts 1))
+one-more κ row accounts x i = omega (arith, one-new (x .table) (rowOfAccount row accounts i) (account κ accounts 1))

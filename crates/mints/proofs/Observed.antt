@@ -1,4 +1,5 @@
--- Evidence from balance rows and instructions: the working table holds what noting it one by one gives.
+-- Evidence from balance rows and instructions: the working table holds what noting it one by one gives, because a row's account is the account that the
+-- evidence names.
 -- Assumes nothing.
 use mathlib.Core.Path.{_≡_, sym, ap, _∙_, subst}
 use mathlib.Core.Bool.{Bool, true, false, cond}
@@ -20,15 +21,15 @@ use Rattle.evidence.specs.Evidence.{note, noteAll}
 use Rattle.evidence.specs.Gather.{gather}
 use Rattle.evidence.proofs.Loops.{gather-take, noteAll-append}
 use Rattle.mints.specs.Note.{Noted, noteAt, balancesTo}
-use Rattle.mints.specs.Gather.{rowOf, noteAccount, observed}
+use Rattle.mints.specs.Gather.{rowOfAccount, noteAccount, observed}
 use Rattle.mints.specs.Inference.{balanceSays}
 use Rattle.mints.proofs.Pieces.{pieces}
-use Rattle.mints.proofs.Holding.{Apart, Holds}
+use Rattle.mints.proofs.Holding.{RowsApart, HoldsRows}
 use Rattle.mints.proofs.Recorded.{noted}
 
 -- the table holds t, and its rows are counted
 pub record Notes (n : ℕ) (α : ℕ → Key) (x : Noted) (t : Table) : Type 0 where
-  pub holds : Holds 2 n α (x .table) t
+  pub holds : HoldsRows 2 n α (x .table) t
   pub counts : length t ≡ x .room
 
 -- each key index has its row
@@ -36,16 +37,16 @@ abbrev pub Indexed : ℕ → (ℕ → Key) → (ℕ → Key) → List ℕ → Ty
 Indexed n α κ row = (j : ℕ) → (getD row j 0 < n) × (α (getD row j 0) ≡ κ j)
 
 -- one note more
-noted-at : {n : ℕ} {α : ℕ → Key} → Apart n α → (x : Noted) (t : Table) → Notes n α x t → (r : ℕ) → r < n → (a : Key) → α r ≡ a → (m : Key) → length m ≡ 32 → Notes n α (noteAt x r m) (note t (a, m))
+noted-at : {n : ℕ} {α : ℕ → Key} → RowsApart n α → (x : Noted) (t : Table) → Notes n α x t → (r : ℕ) → r < n → (a : Key) → α r ≡ a → (m : Key) → length m ≡ 32 → Notes n α (noteAt x r m) (note t (a, m))
 unfolding noteAt
 noted-at {n} {α} p x t h r l a e m w =
     let y = noted p (x .table) t (h .holds) r l m w in
     rw (← e) (record { holds = y .0; counts = y .1 ∙ omega (arith, h .counts) })
 
-module _ {n : ℕ} {α κ : ℕ → Key} (p : Apart n α) (long : (j : ℕ) → length (κ j) ≡ 32) (row : List ℕ) (at : Indexed n α κ row) where
+module _ {n : ℕ} {α κ : ℕ → Key} (p : RowsApart n α) (long : (j : ℕ) → length (κ j) ≡ 32) (row : List ℕ) (at : Indexed n α κ row) where
   -- the row of an instruction's account, and the account
-  pub row-account : (a : List ℕ) (i : ℕ) → (rowOf row a i < n) × (α (rowOf row a i) ≡ account κ a i)
-  unfolding rowOf
+  pub row-account : (a : List ℕ) (i : ℕ) → (rowOfAccount row a i < n) × (α (rowOfAccount row a i) ≡ account κ a i)
+  unfolding rowOfAccount
   row-account a i = go (ltb i (length a))
     where
       go : (b : Bool) → (cond b (getD row (getD a i 0) 0) 0 < n) × (α (cond b (getD row (getD a i 0) 0) 0) ≡ cond b (κ (getD a i 0)) zeroKey)
@@ -54,7 +55,7 @@ module _ {n : ℕ} {α κ : ℕ → Key} (p : Apart n α) (long : (j : ℕ) → 
 
   one-account : (a : List ℕ) (x : Noted) (t : Table) (i : ℕ) → Notes n α x t → Notes n α (noteAccount κ row a x i) (note t (account κ a i, account κ a 1))
   unfolding noteAccount
-  one-account a x t i h = let r = row-account a i in noted-at p x t h (rowOf row a i) (r .0) (account κ a i) (r .1) (account κ a 1) (account-length κ long a 1)
+  one-account a x t i h = let r = row-account a i in noted-at p x t h (rowOfAccount row a i) (r .0) (account κ a i) (r .1) (account κ a 1) (account-length κ long a 1)
 
   -- a token instruction
   pub observes : (token : Token) (a : List ℕ) (x : Noted) (t : Table) → Notes n α x t → Notes n α (observed κ row token a x) (noteAll t (pieces κ token a))
@@ -75,7 +76,7 @@ balances-next κ t s i h =
     ∙ ap (λ (b : ℕ × Key). noteAll (noteAll t (gather (balanceSays κ) (take i (balancesIn s)))) (balanceSays κ b)) (balance-row s i (0, []) h)
 
 -- the balance rows
-pub balances-noted : {n : ℕ} {α κ : ℕ → Key} → Apart n α → (row : List ℕ) → Indexed n α κ row → (s w : List ℕ) (t : Table) → Notes n α (record { table = w; room = 0 }) t → (i : ℕ) → i ≤ length s / 36
+pub balances-noted : {n : ℕ} {α κ : ℕ → Key} → RowsApart n α → (row : List ℕ) → Indexed n α κ row → (s w : List ℕ) (t : Table) → Notes n α (record { table = w; room = 0 }) t → (i : ℕ) → i ≤ length s / 36
     → Notes n α (balancesTo s row w i) (noteAll t (gather (balanceSays κ) (take i (balancesIn s))))
 unfolding balancesTo gather noteAll
 balances-noted p row at s w t h zero l = h

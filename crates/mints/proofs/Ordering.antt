@@ -1,4 +1,4 @@
--- The order of keys byte by byte, and a row number put in between others.
+-- The order of keys byte by byte, which what both begin with does not decide, and a row number put in between others.
 -- Assumes nothing.
 use mathlib.Core.Path.{_≡_, refl, sym, ap, ap₂, _∙_}
 use mathlib.Core.Bool.{Bool, true, false, _&&_, _||_}

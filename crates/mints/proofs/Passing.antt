@@ -1,4 +1,4 @@
--- One transfer more in a pass, and one pass more.
+-- One transfer more in a pass, and one pass more, each by the tests that lead there.
 -- Assumes nothing.
 use mathlib.Core.Path.{_≡_, refl}
 use mathlib.Core.Bool.{Bool, true, false, cond}

@@ -1,4 +1,5 @@
--- When all evidence is noted, the working table holds what is recorded, and the two lists are the plain transfers.
+-- When all evidence is noted, the working table holds what is recorded, and the two lists are the plain transfers: balance rows first, then the instructions,
+-- as the evidence is put together.
 -- Assumes nothing.
 use mathlib.Core.Path.{_≡_, refl, subst}
 use mathlib.Core.List.{List, []}
@@ -21,7 +22,7 @@ use Rattle.mints.specs.Note.{balancesTo}
 use Rattle.mints.specs.Inference.{balanceSays, says, moves, evidenceOf, transfersOf}
 use Rattle.mints.specs.Prepare.{laidOf, begun, gatheredOf}
 use Rattle.mints.proofs.Begun.{laid-apart, laid-holds}
-use Rattle.mints.proofs.Holding.{Apart}
+use Rattle.mints.proofs.Holding.{RowsApart}
 use Rattle.mints.proofs.Stepped.{pairsTo}
 use Rattle.mints.proofs.Observed.{Notes, balances-noted}
 use Rattle.mints.proofs.Collected.{Collected, instructions, collected}
@@ -38,7 +39,7 @@ module _ (ks b p o : List ℕ) (few : keyCount ks ≤ 256) (short : length o ≤
   abbrev pub accounts : ℕ → Key
   accounts r = accountAt (laidOf ks .table) r
 
-  pub apart : Apart (laidOf ks .rows) accounts
+  pub apart : RowsApart (laidOf ks .rows) accounts
   apart = laid-apart (rows-laid ks few)
 
   balances : Notes (laidOf ks .rows) accounts (balancesTo b (laidOf ks .row) (laidOf ks .table) (length b / 36)) (noteAll [] (gather (balanceSays (keyOf ks)) (balancesIn b)))

@@ -1,4 +1,4 @@
--- The place of a row among the ordered rows, which rows these are, and that they ascend.
+-- The place of a row among the ordered rows, which rows these are, and that they ascend: each is put in before the first that is greater.
 -- Assumes nothing.
 use mathlib.Core.Path.{_≡_, refl, sym, _∙_}
 use mathlib.Core.Logic.{_⊎_, inl, inr, ⊎-elim, by-cases}

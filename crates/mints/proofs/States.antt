@@ -1,4 +1,4 @@
--- The marks as states: what setting one changes, and what it leaves.
+-- The marks as states: what setting one changes, and what it leaves, since a mark is one byte of one row.
 -- Assumes nothing.
 use mathlib.Core.Path.{_≡_, refl, sym}
 use mathlib.Core.Logic.{_≢_, by-cases}

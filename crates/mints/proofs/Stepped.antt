@@ -1,4 +1,4 @@
--- Plain transfers: a step between two rows is a step between their accounts.
+-- Plain transfers: a step between two rows is a step between their accounts, in each pair of states that they can have.
 -- Assumes nothing.
 use mathlib.Core.Path.{_≡_, refl, ap, _∙_}
 use mathlib.Core.Logic.{by-cases}
@@ -17,21 +17,21 @@ use Rattle.evidence.proofs.Passes.{length-add}
 use Rattle.evidence.proofs.Lookups.{add-here, add-other, step-zero, step-forth, step-back, step-known, step-unknown, step-ambiguous, step-ambiguous-back}
 use Rattle.evidence.proofs.Loops.{pass-append}
 use Rattle.mints.specs.Bytes.{mintWidth}
-use Rattle.mints.specs.Cells.{mintAt, stateAt, held}
+use Rattle.mints.specs.Cells.{mintAt, stateAt, stateSays}
 use Rattle.mints.specs.Pass.{handAt, stepAt, filledAt, passTo}
 use Rattle.mints.proofs.Passing as passing
 use Rattle.mints.proofs.Fields.{mint-here, states-here}
-use Rattle.mints.proofs.Holding.{Apart, not-zero, Holds, was, Was, changed-mint, update, keep}
+use Rattle.mints.proofs.Holding.{RowsApart, not-zero, HoldsRows, was, Was, changed-mint, update, keep}
 
 -- the table holds t, and what is recorded is r₀
 pub record Held (n : ℕ) (α : ℕ → Key) (r₀ : Table) (w : List ℕ) (t : Table) : Type 0 where
-  pub now : Holds 3 n α w t
+  pub now : HoldsRows 3 n α w t
   pub then : Was n α w r₀
 
-module _ {n : ℕ} {α : ℕ → Key} {r₀ : Table} (p : Apart n α) {w : List ℕ} {t : Table} (h : Held n α r₀ w t) where
+module _ {n : ℕ} {α : ℕ → Key} {r₀ : Table} (p : RowsApart n α) {w : List ℕ} {t : Table} (h : Held n α r₀ w t) where
   -- a mint handed from row a to row b
   handed : (a b : ℕ) → 0 < b → a < n → b < n → stateAt w b ≡ 0 → 1 < stateAt w a → Held n α r₀ (handAt w a b) (add t (α b) (mintAt w a)) × (length (add t (α b) (mintAt w a)) ≡ length t + 1)
-  unfolding held was
+  unfolding stateSays was
   handed a b z k l q o =
       let e : length (mintAt w a) ≡ 32 = simp (length-take, length-drop) (omega (arith, h .now .long)) in
       let f : b * mintWidth + mintWidth ≤ length w = omega (arith, h .now .long) in
@@ -46,30 +46,30 @@ module _ {n : ℕ} {α : ℕ → Key} {r₀ : Table} (p : Apart n α) {w : List 
       )
 
   -- what is to be shown of a step
-  Stepped : ℕ → ℕ → Type 0
-  Stepped a b = Held n α r₀ (stepAt w a b) (step t (α a, α b)) × (length (step t (α a, α b)) ≡ length t + filledAt w a b)
+  SteppedRow : ℕ → ℕ → Type 0
+  SteppedRow a b = Held n α r₀ (stepAt w a b) (step t (α a, α b)) × (length (step t (α a, α b)) ≡ length t + filledAt w a b)
 
   -- nothing happens, in the working table or in t
-  still : (a b : ℕ) → (stepAt w a b ≡ w) × (filledAt w a b ≡ 0) → step t (α a, α b) ≡ t → Stepped a b
-  unfolding Stepped
+  still : (a b : ℕ) → (stepAt w a b ≡ w) × (filledAt w a b ≡ 0) → step t (α a, α b) ≡ t → SteppedRow a b
+  unfolding SteppedRow
   still a b q e = rw (q .0, q .1, e) (h, omega arith)
 
   -- by the states of the two rows
   module _ (a b : ℕ) (za : 0 < a) (zb : 0 < b) (k : a < n) (l : b < n) where
     unsaid : (r : ℕ) → 0 < r → r < n → stateAt w r ≡ 0 → lookup t (α r) ≡ none
-    unfolding held
+    unfolding stateSays
     unsaid r z o q = h .now .said r z o ∙ rw q
 
     doubled : (r : ℕ) → 0 < r → r < n → stateAt w r ≡ 1 → lookup t (α r) ≡ some zeroKey
-    unfolding held
+    unfolding stateSays
     doubled r z o q = h .now .said r z o ∙ rw q
 
     known : (r x : ℕ) → 0 < r → r < n → stateAt w r ≡ suc (suc x) → lookup t (α r) ≡ some (mintAt w r)
-    unfolding held
+    unfolding stateSays
     known r x z o q = h .now .said r z o ∙ rw q
 
-    by-states : (x y : ℕ) → stateAt w a ≡ x → stateAt w b ≡ y → Stepped a b
-    unfolding Stepped
+    by-states : (x y : ℕ) → stateAt w a ≡ x → stateAt w b ≡ y → SteppedRow a b
+    unfolding SteppedRow
     by-states zero zero e f = still a b (passing.step-low w a b e (omega arith)) (step-unknown t (α a, α b) (unsaid a za k e) (unsaid b zb l f))
     by-states zero (suc zero) e f = still a b (passing.step-low w a b e (omega arith)) (step-ambiguous-back t (α a, α b) (unsaid a za k e) (doubled b zb l f))
     by-states zero (suc (suc y)) e f =
@@ -90,7 +90,7 @@ module _ {n : ℕ} {α : ℕ → Key} {r₀ : Table} (p : Apart n α) {w : List 
   row-zero : (r : ℕ) → r ≡ 0 → stateAt w r ≡ 1
   row-zero r z = ap (λ (k : ℕ). stateAt w k) z ∙ h .now .first
 
-  from-zero : (a b : ℕ) → a ≡ 0 → Stepped a b
+  from-zero : (a b : ℕ) → a ≡ 0 → SteppedRow a b
   from-zero a b z =
       by-cases
       (ℕ-discrete (stateAt w b) 0)
@@ -100,7 +100,7 @@ module _ {n : ℕ} {α : ℕ → Key} {r₀ : Table} (p : Apart n α) {w : List 
       idle : step t (α a, α b) ≡ t
       idle = step-zero t (α a, α b) (rw (same-eq (ap α z ∙ p .zero-row)))
 
-  to-zero : (a b : ℕ) → b ≡ 0 → Stepped a b
+  to-zero : (a b : ℕ) → b ≡ 0 → SteppedRow a b
   to-zero a b z =
       by-cases
       (ℕ-discrete (stateAt w a) 0)
@@ -111,7 +111,7 @@ module _ {n : ℕ} {α : ℕ → Key} {r₀ : Table} (p : Apart n α) {w : List 
       idle = step-zero t (α a, α b) (rw (same-eq (ap α z ∙ p .zero-row)) (or-true (isZero (α a))))
 
   pub stepped : (a b : ℕ) → a < n → b < n → Held n α r₀ (stepAt w a b) (step t (α a, α b)) × (length (step t (α a, α b)) ≡ length t + filledAt w a b)
-  unfolding Stepped
+  unfolding SteppedRow
   stepped a b k l =
       by-cases
       (ℕ-discrete a 0)
@@ -124,7 +124,7 @@ pairsTo α f g zero = []
 pairsTo α f g (suc i) = pairsTo α f g i ++ ((α (getD f i 0), α (getD g i 0)) ∷ [])
 
 -- a pass over row numbers is a pass over their accounts
-pub passed : {n : ℕ} {α : ℕ → Key} {r₀ : Table} → Apart n α → {w : List ℕ} {t : Table} → Held n α r₀ w t → (f g : List ℕ) → ((i : ℕ) → getD f i 0 < n) → ((i : ℕ) → getD g i 0 < n) → (i : ℕ)
+pub passed : {n : ℕ} {α : ℕ → Key} {r₀ : Table} → RowsApart n α → {w : List ℕ} {t : Table} → Held n α r₀ w t → (f g : List ℕ) → ((i : ℕ) → getD f i 0 < n) → ((i : ℕ) → getD g i 0 < n) → (i : ℕ)
     → Held n α r₀ (passTo f g w i .table) (pass t (pairsTo α f g i)) × (length (pass t (pairsTo α f g i)) ≡ length t + passTo f g w i .room)
 unfolding passTo pairsTo pass
 passed p h f g a b zero = (h, omega arith)

@@ -1,4 +1,5 @@
--- What the worker's calls ask, and what they come to.
+-- What the calls of `conclude` and `infer` ask, and what they come to: the counts are bounded by what is read, and the table at the end is the one of the
+-- definitions.
 -- Assumes nothing.
 use mathlib.Core.Path.{_≡_, refl, _∙_, subst}
 use mathlib.Core.Logic.{_≢_}
@@ -10,18 +11,20 @@ use lib.ListN.{length, getD, length-map}
 use Rattle.ids.specs.Keys.{keyCount, keyOf}
 use Rattle.pack.specs.Invocation.{instructionAt}
 use Rattle.evidence.specs.Evidence.{recorded}
-use Rattle.evidence.specs.MintTable.{Answer}
+use Rattle.evidence.specs.MintTable.{MintAnswer}
 use Rattle.mints.specs.declared.Inferred.the-variants.{Made}
 use Rattle.mints.specs.Cells.{Fits}
 use Rattle.mints.specs.Gather.{tokenAt, Gathered, gatherAt, gatherTo}
 use Rattle.mints.specs.Prepare.{laidOf, begun, gatheredOf}
-use Rattle.mints.specs.Pass.{passes, doubtsTo}
+use Rattle.mints.specs.Pass.{handedOn}
+use Rattle.mints.specs.Conclude.{Concluded, concluded}
 use Rattle.mints.specs.Order.{sortTo, rowsBytes, mintsTo}
-use Rattle.mints.specs.Inference.{inferred, inferredIn, answerOf, rowsOf, finalOf}
+use Rattle.mints.specs.Inference.{inferred, inferredIn, answerOf, mintBytes, finalOf}
 use Rattle.mints.proofs.Written.{cell, cells-bytes}
 use Rattle.mints.proofs.Collected.{Collected, count-bound}
 use Rattle.mints.proofs.Gathering.{two-more}
-use Rattle.mints.proofs.Preparing.{laid-index, balances-bound}
+use Rattle.mints.specs.Bytes.{mintWidth}
+use Rattle.mints.proofs.Preparing.{rows-laid, laid-index, laid-fits, balances-bound}
 use Rattle.mints.proofs.Prepared.{evidenceIn, transfersIn, accounts, apart, prepared}
 use Rattle.mints.proofs.Right.{Right, too-many, made, right}
 
@@ -60,29 +63,54 @@ module _ (ks b p o : List ℕ) (few : keyCount ks ≤ 256) (short : length o ≤
       let c : room ≤ length b / 36 + length o * 2 = subst (λ (x : Gathered). x .noted .room ≤ length b / 36 + length o * 2) e (all-noted ks b p o) in
       omega arith
 
-  -- the passes are too many
-  pub none-right : passes f g count t room .passes ≡ 513 → inferredIn ks b p o ≡ none
+  -- and what handing on comes to
+  pub concluded-is : {v r : List ℕ} {table : List ℕ} {rows final passed : ℕ} → laidOf ks ≡ record { table = v; row = r; rows = rows }
+      → handedOn f g count t room ≡ record { table = table; room = final; passes = passed }
+      → concluded ks b p o ≡ record { table = table; row = r; rows = rows; room = final; passes = passed }
+  unfolding concluded
+  concluded-is l h = rw (e, l, h)
+
+-- the rows of the keys are whole rows of a table of 257
+module _ (ks b p o : List ℕ) (few : keyCount ks ≤ 256) where
+  pub concluded-rows : concluded ks b p o .rows ≤ 257
+  unfolding concluded
+  concluded-rows = omega (arith, rows-laid ks few .few)
+
+  pub concluded-fits : (t : List ℕ) → length t ≡ 257 * mintWidth → Fits t (concluded ks b p o .row)
+  unfolding concluded
+  concluded-fits t w = laid-fits ks few t w
+
+module _ (ks b p o : List ℕ) (few : keyCount ks ≤ 256) (short : length o ≤ 1024) where
+  abbrev ways : Option MintAnswer → Type 0
+  ways = Right (apart ks b p o few short) (evidenceIn ks b p o few short) (transfersIn ks b p o few short) (gatheredOf ks b p o) (prepared ks b p o few short)
+
+  found : ways (inferredIn ks b p o)
   unfolding inferred evidenceIn transfersIn
-  none-right q = go (right (apart ks b p o few short) (evidenceIn ks b p o few short) (transfersIn ks b p o few short) (record { noted = record { table = t; room = room }; from = f; to = g; count = count }) state)
+  found = right (apart ks b p o few short) (evidenceIn ks b p o few short) (transfersIn ks b p o few short) (gatheredOf ks b p o) (prepared ks b p o few short)
+
+  -- the passes are too many
+  pub none-right : concluded ks b p o .passes ≡ 513 → inferredIn ks b p o ≡ none
+  unfolding concluded handedOn
+  none-right q = go found
     where
-      go : {y : Option Answer} → Right (apart ks b p o few short) (evidenceIn ks b p o few short) (transfersIn ks b p o few short) (record { noted = record { table = t; room = room }; from = f; to = g; count = count }) state y → y ≡ none
+      go : {y : Option MintAnswer} → ways y → y ≡ none
       go (too-many z) = refl
-      go (made n r m k l w) = absurd (n q)
+      go (made n r m k l) = absurd (n q)
 
   -- the mint table
-  pub record Tables (x : Option Answer) : Type 0 where
-    pub answer : Made (passes f g count t room .room) (length (sortTo (doubtsTo f g (passes f g count t room .table) count) (laidOf ks .rows))) (passes f g count t room .passes) ≡ answerOf x
-    pub rows : rowsBytes (doubtsTo f g (passes f g count t room .table) count) (sortTo (doubtsTo f g (passes f g count t room .table) count) (laidOf ks .rows)) ≡ rowsOf x
-    pub final : mintsTo (doubtsTo f g (passes f g count t room .table) count) (laidOf ks .row) (keyCount ks) ≡ finalOf x (keyOf ks) (keyCount ks)
+  pub record TablesConcluded (w : Concluded) (x : Option MintAnswer) : Type 0 where
+    pub answer : Made (w .room) (length (sortTo (w .table) (w .rows))) (w .passes) ≡ answerOf x
+    pub rows : rowsBytes (w .table) (sortTo (w .table) (w .rows)) ≡ mintBytes x
+    pub final : mintsTo (w .table) (w .row) (keyCount ks) ≡ finalOf x (keyOf ks) (keyCount ks)
 
-  pub some-right : passes f g count t room .passes ≢ 513 → Tables (inferredIn ks b p o)
-  unfolding inferred evidenceIn transfersIn answerOf rowsOf finalOf
-  some-right q = go (right (apart ks b p o few short) (evidenceIn ks b p o few short) (transfersIn ks b p o few short) (record { noted = record { table = t; room = room }; from = f; to = g; count = count }) state)
+  pub some-right : concluded ks b p o .passes ≢ 513 → TablesConcluded (concluded ks b p o) (inferredIn ks b p o)
+  unfolding concluded handedOn answerOf mintBytes finalOf
+  some-right q = go found
     where
-      go : {y : Option Answer} → Right (apart ks b p o few short) (evidenceIn ks b p o few short) (transfersIn ks b p o few short) (record { noted = record { table = t; room = room }; from = f; to = g; count = count }) state y → Tables y
+      go : {y : Option MintAnswer} → ways y → TablesConcluded (concluded ks b p o) y
       go (too-many z) = absurd (q z)
-      go (made n r m k l w) =
-          let v = doubtsTo f g (passes f g count t room .table) count in
+      go (made n r m k l) =
+          let v = concluded ks b p o .table in
           record {
             answer = rw (m, k, r, length-map (sortTo v (laidOf ks .rows)) (cell v));
             rows = cells-bytes v (sortTo v (laidOf ks .rows)) ∙ rw r;

@@ -1,4 +1,4 @@
--- How long rows and mints are as they are written, one row more, and what stays zero.
+-- How long rows and mints are as they are written, one row more, and what stays zero behind them.
 -- Assumes nothing.
 use mathlib.Core.Path.{_≡_, refl, sym, ap, _∙_}
 use mathlib.Core.Bool.{Bool, true, false, cond}
@@ -19,10 +19,10 @@ use Rattle.ids.specs.Keys.{zeroKey}
 use Rattle.evidence.specs.MintTable.{MintRow}
 use Rattle.mints.specs.Bytes.{mintWidth, mintRow}
 use Rattle.mints.specs.Cells.{mintAt, stateAt, Fits}
-use Rattle.mints.specs.Order.{rowBytes, rowsBytes, mintOf, mintsTo, Blank}
+use Rattle.mints.specs.Order.{rowBytes, rowsBytes, shownMint, mintsTo, Blank}
 
-pub mint-length : (t : List ℕ) (r : ℕ) → r * mintWidth + mintWidth ≤ length t → length (mintOf t r) ≡ 32
-unfolding mintOf zeroKey
+pub mint-length : (t : List ℕ) (r : ℕ) → r * mintWidth + mintWidth ≤ length t → length (shownMint t r) ≡ 32
+unfolding shownMint zeroKey
 mint-length t r h = go (ltb 1 (stateAt t r))
   where
     go : (b : Bool) → length (cond b (mintAt t r) zeroKey) ≡ 32
@@ -37,8 +37,8 @@ sets-blank l i (suc n) f =
     ap (λ (m : List ℕ). sets m (suc i) (zeros n)) e ∙ sets-blank l (suc i) n (λ k h. f k (omega arith))
 
 -- a row with no mint leaves zeros as they are
-pub mint-none : (l t : List ℕ) (i r : ℕ) → Blank l i → stateAt t r ≤ 1 → l ≡ sets l i (mintOf t r)
-unfolding mintOf zeroKey
+pub mint-none : (l t : List ℕ) (i r : ℕ) → Blank l i → stateAt t r ≤ 1 → l ≡ sets l i (shownMint t r)
+unfolding shownMint zeroKey
 mint-none l t i r f h = rw (le-ltb 1 (stateAt t r) h) (sym (sets-blank l i 32 f))
 
 -- 32 bytes for each key index

@@ -1,4 +1,5 @@
--- The rows that are written are those of the mint table, and the mints by key index are theirs.
+-- The rows that are written are those of the mint table, and the mints by key index are theirs: rows that ascend and are the right ones are the table,
+-- whoever sorted them.
 -- Assumes nothing.
 use mathlib.Core.Path.{_≡_, refl, sym, ap, _∙_, subst}
 use mathlib.Core.Logic.{_≢_, by-cases}
@@ -27,11 +28,11 @@ use Rattle.evidence.proofs.Marking.{mark-zero, mark-filled}
 use Rattle.evidence.specs.Ascending.{Ascending, asc-nil}
 use Rattle.evidence.proofs.Ascending.{ascending-put, ascending-map}
 use Rattle.evidence.proofs.Written as theory
-use Rattle.mints.specs.Cells.{accountAt, mintAt, stateAt, held}
-use Rattle.mints.specs.Order.{spotIn, putIn, sortTo, rowBytes, rowsBytes, mintOf, mintsTo}
+use Rattle.mints.specs.Cells.{accountAt, mintAt, stateAt, stateSays}
+use Rattle.mints.specs.Order.{spotIn, putIn, sortTo, rowBytes, rowsBytes, shownMint, mintsTo}
 use Rattle.mints.specs.Bytes.{mintWidth, tableBytes, orZero, mintsOf}
 use Rattle.mints.proofs.Sorting.{spot-bound, spot-before, spot-at, sorted-mem, mem-sorted, getD-mem}
-use Rattle.mints.proofs.Holding.{Apart, was}
+use Rattle.mints.proofs.Holding.{RowsApart, was}
 use Rattle.mints.proofs.Stepped.{Held}
 use Rattle.mints.proofs.States.{marked-filled, marked-other}
 use Rattle.mints.proofs.Marked.{Marked, has-mint, final-row}
@@ -67,7 +68,7 @@ unfolding rowsBytes rowBytes tableBytes cell
 cells-bytes t [] = refl
 cells-bytes t (r ∷ l) = rw (cells-bytes t l, take-add 32 32 (drop (r * mintWidth) t), drop-drop 32 (r * mintWidth) t)
 
-module _ {n : ℕ} {α : ℕ → Key} {e : Evidence} {ps : Transfers} {t : Table} (p : Apart n α) (s : Settled e ps t) {w v : List ℕ} (h : Held n α (recorded e) w t) (m : Marked n α t ps w v) where
+module _ {n : ℕ} {α : ℕ → Key} {e : Evidence} {ps : Transfers} {t : Table} (p : RowsApart n α) (s : Settled e ps t) {w v : List ℕ} (h : Held n α (recorded e) w t) (m : Marked n α t ps w v) where
   account-is : (r : ℕ) → r < n → accountAt v r ≡ α r
   account-is r k = m .account r ∙ h .now .account r k
 
@@ -90,7 +91,7 @@ module _ {n : ℕ} {α : ℕ → Key} {e : Evidence} {ps : Transfers} {t : Table
   mark-right r z k (suc (suc x)) q l = absurd (omega arith)
 
   said : (r x : ℕ) → 0 < r → r < n → stateAt w r ≡ suc (suc x) → lookup t (α r) ≡ some (mintAt w r)
-  unfolding held
+  unfolding stateSays
   said r x z k q = h .now .said r z k ∙ rw q
 
   row-right : (r : ℕ) → r < n → 1 < stateAt v r → (lookup t (accountAt v r) ≡ some (mintAt v r)) × (mintAt v r ≢ zeroKey) × (stateAt v r - 2 ≡ markOf (recorded e) ps (final t) (accountAt v r))
@@ -108,7 +109,7 @@ module _ {n : ℕ} {α : ℕ → Key} {e : Evidence} {ps : Transfers} {t : Table
 
   -- an account with a mint has a row
   row-there : (a k : Key) → lookup t a ≡ some k → k ≢ zeroKey → (r : ℕ) × (r < n) × (1 < stateAt v r) × (accountAt v r ≡ a) × (mintAt v r ≡ k)
-  unfolding held
+  unfolding stateSays
   row-there a k q z = go (h .now .cover a k q)
     where
       state : (r : ℕ) → 0 < r → r < n → α r ≡ a → (x : ℕ) → stateAt w r ≡ x → (r : ℕ) × (r < n) × (1 < stateAt v r) × (accountAt v r ≡ a) × (mintAt v r ≡ k)
@@ -147,8 +148,8 @@ module _ {n : ℕ} {α : ℕ → Key} {e : Evidence} {ps : Transfers} {t : Table
           Memᴰ·cast (sym (row-eq (y .3) (y .4) (f .2 ∙ ap (λ (c : Key). markOf (recorded e) ps (final t) c) (y .3)))) (Memᴰ·map (cell v) (mem-sorted v n (y .1) (y .2)))
 
   -- the mint of a row is that of its account
-  pub mint-right : (r : ℕ) → r < n → mintOf v r ≡ orZero (mintIn (mintTable (recorded e) ps t) (α r))
-  unfolding mintOf orZero
+  pub mint-right : (r : ℕ) → r < n → shownMint v r ≡ orZero (mintIn (mintTable (recorded e) ps t) (α r))
+  unfolding shownMint orZero
   mint-right r k = rw (table-mint (recorded e) ps t (α r), final-row p s (h .now) r k, has-mint m r k, m .mint r) (go (ltb 1 (stateAt w r)))
     where
       go : (b : Bool) → cond b (mintAt w r) zeroKey ≡ orZero (cond b (some (mintAt w r)) none)

@@ -36,20 +36,20 @@ unfoldable pub withState : List ℕ → ℕ → ℕ → List ℕ
 withState t r s = set t (r * mintWidth + 64) s
 
 -- what a state and a mint say of an account; the zero key tells an ambiguous one
-unfoldable pub held : ℕ → Key → Option Key
-held zero m = none
-held (suc zero) m = some zeroKey
-held (suc (suc s)) m = some m
+unfoldable pub stateSays : ℕ → Key → Option Key
+stateSays zero m = none
+stateSays (suc zero) m = some zeroKey
+stateSays (suc (suc s)) m = some m
 
 -- the first of the f rows from i on whose account is k, and i + f where there is none
-unfoldable pub firstFrom : List ℕ → Key → ℕ → ℕ → ℕ
-firstFrom t k zero i = i
-firstFrom t k (suc f) i = let rest = firstFrom t k f (suc i) in cond (same (accountAt t i) k) i rest
+unfoldable pub firstRowFrom : List ℕ → Key → ℕ → ℕ → ℕ
+firstRowFrom t k zero i = i
+firstRowFrom t k (suc f) i = let rest = firstRowFrom t k f (suc i) in cond (same (accountAt t i) k) i rest
 
 -- an array has something other than 0 at the last byte of each of the first n rows' accounts
-abbrev pub Ends : List ℕ → ℕ → List ℕ → Type 0
-Ends t n ends = (r : ℕ) → r < n → getD ends (getD t (r * mintWidth + 31) 0) 0 ≢ 0
+abbrev pub LastBytesSeen : List ℕ → ℕ → List ℕ → Type 0
+LastBytesSeen t n ends = (r : ℕ) → r < n → getD ends (getD t (r * mintWidth + 31) 0) 0 ≢ 0
 
 -- the first of n rows whose account is k, and n where there is none
 abbrev pub firstRow : List ℕ → Key → ℕ → ℕ
-firstRow t k n = firstFrom t k n 0
+firstRow t k n = firstRowFrom t k n 0

@@ -1,7 +1,6 @@
 -- The invocations' evidence into the working table, and their plain transfers as row numbers.
 -- Assumes nothing.
 use Prim.Native.Nat.{ℕ, zero, suc}
-use mathlib.Core.Path.{_≡_}
 use mathlib.Core.Bool.{Bool, true, false, cond}
 use mathlib.Core.List.{List}
 use lib.Dec.{ltb}
@@ -15,12 +14,12 @@ use Rattle.token.specs.declared.Token.the-variants.{Other, Initialise, Plain, C
 use Rattle.mints.specs.Note.{Noted, noteAt}
 
 -- the row of an instruction's account i: row 0, the zero key's, where there is none
-unfoldable pub rowOf : List ℕ → List ℕ → ℕ → ℕ
-rowOf row accounts i = cond (ltb i (length accounts)) (getD row (getD accounts i 0) 0) 0
+unfoldable pub rowOfAccount : List ℕ → List ℕ → ℕ → ℕ
+rowOfAccount row accounts i = cond (ltb i (length accounts)) (getD row (getD accounts i 0) 0) 0
 
 -- the mint that account 1 names, for account i
 unfoldable pub noteAccount : (ℕ → Key) → List ℕ → List ℕ → Noted → ℕ → Noted
-noteAccount κ row accounts x i = noteAt x (rowOf row accounts i) (account κ accounts 1)
+noteAccount κ row accounts x i = noteAt x (rowOfAccount row accounts i) (account κ accounts 1)
 
 -- what a token instruction records
 unfoldable pub observed : (ℕ → Key) → List ℕ → Token → List ℕ → Noted → Noted
@@ -41,11 +40,15 @@ isPlain (WithFee n f) = false
 unfoldable pub tokenAt : List ℕ → List ℕ → ℕ → Token
 tokenAt ks p o = tokenOf (programAt ks (instructionAt p o .program)) (length (instructionAt p o .accounts)) (instructionAt p o .bytes)
 
--- what is noted, and the rows of the sources and destinations of the plain transfers
+-- what is left when instructions are read
 pub record Gathered : Type 0 where
+  -- the table with their evidence, and the accounts recorded
   pub noted : Noted
+  -- the rows of the plain transfers' sources
   pub from : List ℕ
+  -- the rows of their destinations
   pub to : List ℕ
+  -- how many plain transfers there are
   pub count : ℕ
 
 -- one instruction more
@@ -53,8 +56,8 @@ unfoldable pub gatherAt : (ℕ → Key) → List ℕ → Token → List ℕ → 
 gatherAt κ row token accounts g =
     record {
       noted = observed κ row token accounts (g .noted);
-      from = cond (isPlain token) (set (g .from) (g .count) (rowOf row accounts 0)) (g .from);
-      to = cond (isPlain token) (set (g .to) (g .count) (rowOf row accounts 1)) (g .to);
+      from = cond (isPlain token) (set (g .from) (g .count) (rowOfAccount row accounts 0)) (g .from);
+      to = cond (isPlain token) (set (g .to) (g .count) (rowOfAccount row accounts 1)) (g .to);
       count = cond (isPlain token) (suc (g .count)) (g .count);
     }
 
@@ -64,8 +67,7 @@ gatherTo ks p offsets row g zero = g
 gatherTo ks p offsets row g (suc i) =
     gatherAt (keyOf ks) row (tokenAt ks p (getD offsets i 0)) (instructionAt p (getD offsets i 0) .accounts) (gatherTo ks p offsets row g i)
 
--- what is left when all instructions are read: table, rows of sources, rows of destinations, accounts recorded, plain transfers
-unfoldable pub Gathers : List ℕ → List ℕ → List ℕ → List ℕ → List ℕ → List ℕ → List ℕ → ℕ → List ℕ → List ℕ → List ℕ → ℕ → ℕ → Type 0
-Gathers ks p offsets row t f g recorded t′ f′ g′ room count =
-    gatherTo ks p offsets row (record { noted = record { table = t; room = recorded }; from = f; to = g; count = 0 }) (length offsets)
-    ≡ record { noted = record { table = t′; room = room }; from = f′; to = g′; count = count }
+-- all instructions, when nothing is counted yet: t is the table, f and g are to hold the rows of the sources and destinations
+abbrev pub gatherAll : List ℕ → List ℕ → List ℕ → List ℕ → List ℕ → List ℕ → List ℕ → Gathered
+gatherAll ks p offsets row t f g =
+    gatherTo ks p offsets row (record { noted = record { table = t; room = 0 }; from = f; to = g; count = 0 }) (length offsets)

@@ -10,14 +10,17 @@ use Rattle.ids.specs.Keys.{Key}
 use Rattle.mints.specs.Bytes.{mintWidth}
 use Rattle.mints.specs.Cells.{firstRow, withState}
 
--- the table, the row of each key index, and how many rows there are
-pub record Laid : Type 0 where
+-- what is left when keys are laid
+pub record KeyRows : Type 0 where
+  -- the table, with a row for each distinct key
   pub table : List ℕ
+  -- the row of each key index
   pub row : List ℕ
+  -- how many rows there are
   pub rows : ℕ
 
 -- key i at row r: a new row, if r is the number of rows
-unfoldable pub layAt : Laid → ℕ → Key → ℕ → Laid
+unfoldable pub layAt : KeyRows → ℕ → Key → ℕ → KeyRows
 layAt s i k r =
     record {
       table = cond (eqb r (s .rows)) (sets (s .table) (r * mintWidth) k) (s .table);
@@ -26,14 +29,14 @@ layAt s i k r =
     }
 
 -- one key more
-unfoldable pub layKey : Laid → ℕ → Key → Laid
+unfoldable pub layKey : KeyRows → ℕ → Key → KeyRows
 layKey s i k = layAt s i k (firstRow (s .table) k (s .rows))
 
 -- the first i keys, into a table whose row 0 is laid
-unfoldable pub layTo : (ℕ → Key) → List ℕ → List ℕ → ℕ → Laid
+unfoldable pub layTo : (ℕ → Key) → List ℕ → List ℕ → ℕ → KeyRows
 layTo κ t row zero = record { table = t; row = row; rows = 1 }
 layTo κ t row (suc i) = layKey (layTo κ t row i) i (κ i)
 
 -- row 0, the zero key's and ambiguous, and n keys
-abbrev pub laid : (ℕ → Key) → List ℕ → List ℕ → ℕ → Laid
+abbrev pub laid : (ℕ → Key) → List ℕ → List ℕ → ℕ → KeyRows
 laid κ t row n = layTo κ (withState t 0 1) row n

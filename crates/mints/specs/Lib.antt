@@ -8,3 +8,4 @@ pub mod Order
 pub mod Bytes
 pub mod Inference
 pub mod Prepare
+pub mod Conclude

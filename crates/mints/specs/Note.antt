@@ -18,9 +18,11 @@ recordAt t r m = cond (same m zeroKey) t (cond (eqb (stateAt t r) 0) (withMint t
 unfoldable pub newAt : List ℕ → ℕ → Key → ℕ
 newAt t r m = cond (same m zeroKey) 0 (cond (eqb (stateAt t r) 0) 1 0)
 
--- the table, and how many accounts are recorded in it
+-- what is left when evidence is noted, and after a pass
 pub record Noted : Type 0 where
+  -- the table
   pub table : List ℕ
+  -- how many accounts were recorded in it, or filled in by the pass
   pub room : ℕ
 
 -- one piece of evidence, for a row

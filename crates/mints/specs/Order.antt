@@ -39,13 +39,13 @@ rowsBytes t [] = []
 rowsBytes t (r ∷ l) = rowBytes t r ++ rowsBytes t l
 
 -- the mint of row r, zero where it has none
-unfoldable pub mintOf : List ℕ → ℕ → Key
-mintOf t r = cond (ltb 1 (stateAt t r)) (mintAt t r) zeroKey
+unfoldable pub shownMint : List ℕ → ℕ → Key
+shownMint t r = cond (ltb 1 (stateAt t r)) (mintAt t r) zeroKey
 
 -- the mints of the rows of the first n key indexes
 unfoldable pub mintsTo : List ℕ → List ℕ → ℕ → List ℕ
 mintsTo t row zero = []
-mintsTo t row (suc i) = mintsTo t row i ++ mintOf t (getD row i 0)
+mintsTo t row (suc i) = mintsTo t row i ++ shownMint t (getD row i 0)
 
 -- nothing but zero from place i on
 abbrev pub Blank : List ℕ → ℕ → Type 0

@@ -28,10 +28,13 @@ passTo f g t (suc i) =
     let x = passTo f g t i in
     record { table = stepAt (x .table) (getD f i 0) (getD g i 0); room = x .room + filledAt (x .table) (getD f i 0) (getD g i 0) }
 
--- the table when the passes are over, the accounts that need room, and the passes, 513 where 512 are too few
+-- what is left when the passes are over
 pub record Ran : Type 0 where
+  -- the table
   pub table : List ℕ
+  -- the accounts that need room: those recorded, and those filled in
   pub room : ℕ
+  -- the passes, 513 where 512 are too few
   pub passes : ℕ
 
 -- at most k passes over n transfers, after p
@@ -60,3 +63,9 @@ doubtsTo f g t zero = t
 doubtsTo f g t (suc i) =
     let u = doubtsTo f g t i in
     cond (differAt u (getD f i 0) (getD g i 0)) (doubtAt (doubtAt u (getD f i 0)) (getD g i 0)) u
+
+-- the passes, and then the marks
+unfoldable pub handedOn : List ℕ → List ℕ → ℕ → List ℕ → ℕ → Ran
+handedOn f g n t room =
+    let x = passes f g n t room in
+    record { table = doubtsTo f g (x .table) n; room = x .room; passes = x .passes }

@@ -6,12 +6,12 @@ use lib.ListN.{length}
 use Rattle.wire.specs.Zeros.{zeros}
 use Rattle.ids.specs.Keys.{keyCount, keyOf}
 use Rattle.mints.specs.Bytes.{mintWidth}
-use Rattle.mints.specs.Lay.{Laid, laid}
+use Rattle.mints.specs.Lay.{KeyRows, laid}
 use Rattle.mints.specs.Note.{balancesTo}
 use Rattle.mints.specs.Gather.{Gathered, gatherTo}
 
 -- 257 rows, for at most 256 keys and the zero key
-unfoldable pub laidOf : List ℕ → Laid
+unfoldable pub laidOf : List ℕ → KeyRows
 laidOf ks = laid (keyOf ks) (zeros (257 * mintWidth)) (zeros 256) (keyCount ks)
 
 -- the balance rows are noted

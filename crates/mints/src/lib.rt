@@ -7,13 +7,12 @@ ghost use Prim.Native.Nat.{_*_, _≤_};
 ghost use lib.ListN.{length, take};
 ghost use lib.Seq.{sets};
 ghost use Rattle.wire.specs.Zeros.{zeros};
-ghost use Rattle.ids.specs.Keys.{keyCount, keyOf};
 ghost use Rattle.mints.specs.Bytes.{mintWidth};
 ghost use Rattle.mints.specs.Cells.{Fits};
 ghost use Rattle.mints.specs.Programs.{programsOf};
-ghost use Rattle.mints.specs.Prepare.{laidOf, gatheredOf};
+ghost use Rattle.mints.specs.Conclude.{concluded};
 ghost use Rattle.mints.specs.Order.{sortTo, rowsBytes, mintsTo};
-ghost use Rattle.mints.specs.Inference.{inferredIn, answerOf, rowsOf, finalOf};
+ghost use Rattle.mints.specs.Inference.{inferredOf, answerOf, mintBytes, finalFor};
 
 mod notes;
 mod order;
@@ -29,37 +28,39 @@ pub enum Inferred {
     TooManyPasses,
 }
 
-// The rows of the keys, the accounts recorded in them, and the plain transfers.
-struct Ready {
+// The rows of the keys, the accounts that need room, and the passes.
+struct Concluded {
     rows: usize,
     room: usize,
-    count: usize,
+    passes: usize,
 }
 
-// Lays the rows of the keys, notes all evidence in them, and lists the plain transfers and the programs.
-fn prepare(
+// Lays the rows of the keys, notes all evidence in them, hands mints on along the plain transfers, and marks those that the transfers put in doubt; keeps
+// the numbers of the programs.
+fn conclude(
     keys: &[u8],
     balances: &[u8],
     pack: &[u8],
     at: &[u32],
     table: &mut [u8],
     row: &mut [u32],
-    from: &mut [u32],
-    to: &mut [u32],
     programs: &mut [u8; 1024],
-) -> Ready
-    requires { ⌜ (length (now keys) ≤ 8448) × (length (now at) ≤ 1024) ⌝ }
-    requires { ⌜ (now table ≡ zeros (257 * mintWidth)) × (now row ≡ zeros 256) × (now from ≡ zeros 1024) × (now to ≡ zeros 1024) ⌝ }
-    ensures { λ r. ⌜ (gatheredOf (now (keys .entry)) (now (balances .entry)) (now (pack .entry)) (now (at .entry)) ≡ record { noted = record { table = now (table .exit); room = r .room }; from = now (from .exit); to = now (to .exit); count = r .count }) × (now (row .exit) ≡ laidOf (now (keys .entry)) .row) × (r .rows ≡ laidOf (now (keys .entry)) .rows) ⌝ }
+) -> Concluded
+    requires { ⌜ (length (now keys) ≤ 8448) × (length (now at) ≤ 1024) × (now table ≡ zeros (257 * mintWidth)) × (now row ≡ zeros 256) ⌝ }
+    ensures { λ r. ⌜ concluded (now (keys .entry)) (now (balances .entry)) (now (pack .entry)) (now (at .entry))
+        ≡ record { table = now (table .exit); row = now (row .exit); rows = r .rows; room = r .room; passes = r .passes } ⌝ }
     ensures { λ _. ⌜ now (programs .exit) ≡ sets (now (programs .entry)) 0 (programsOf (now (keys .entry)) (now (pack .entry)) (now (at .entry))) ⌝ }
 {
     let rows = table::lay(keys, table, row);
     let recorded = notes::note_balances(balances, row, table);
-    let g = notes::gather(keys, pack, at, row, table, from, to, recorded, programs);
-    Ready {
+    let mut from = [0u32; 1024];
+    let mut to = [0u32; 1024];
+    let g = notes::gather(keys, pack, at, row, table, &mut from, &mut to, programs);
+    let ran = pass::hand_on(table, &from, &to, g.count, recorded + g.room);
+    Concluded {
         rows,
-        room: g.room,
-        count: g.count,
+        room: ran.room,
+        passes: ran.passes,
     }
 }
 
@@ -74,46 +75,15 @@ fn publish(
 ) -> usize
     requires { ⌜ (rows ≤ 257) × (n ≤ length (now row)) × (n ≤ 256) × (length (now table) ≡ 257 * mintWidth) × Fits (now table) (now row) ⌝ }
     requires { ⌜ now known ≡ zeros (length (now known)) ⌝ }
-    ensures { λ k. ⌜ (k ≡ length (sortTo (now (table .entry)) rows)) × (now (out .exit) ≡ sets (now (out .entry)) 0 (rowsBytes (now (table .entry)) (sortTo (now (table .entry)) rows))) × (now (known .exit) ≡ sets (now (known .entry)) 0 (mintsTo (now (table .entry)) (now (row .entry)) n)) ⌝ }
+    ensures { λ k. ⌜ k ≡ length (sortTo (now (table .entry)) rows) ⌝ }
+    ensures { λ _. ⌜ now (out .exit) ≡ sets (now (out .entry)) 0 (rowsBytes (now (table .entry)) (sortTo (now (table .entry)) rows)) ⌝ }
+    ensures { λ _. ⌜ now (known .exit) ≡ sets (now (known .entry)) 0 (mintsTo (now (table .entry)) (now (row .entry)) n) ⌝ }
 {
     let mut order = [0u32; 257];
     let k = order::sort(table, rows, &mut order);
     order::write_rows(table, &order, k, out);
     order::write_mints(table, row, n, known);
     k
-}
-
-// All of it, in tables that are lent.
-fn work(
-    keys: &[u8],
-    balances: &[u8],
-    pack: &[u8],
-    at: &[u32],
-    table: &mut [u8],
-    row: &mut [u32],
-    from: &mut [u32],
-    to: &mut [u32],
-    rows: &mut [u8],
-    known: &mut [u8],
-    programs: &mut [u8; 1024],
-) -> Inferred
-    requires { ⌜ (length (now keys) ≤ 8448) × (length (now at) ≤ 1024) ⌝ }
-    requires { ⌜ (now table ≡ zeros (257 * mintWidth)) × (now row ≡ zeros 256) × (now from ≡ zeros 1024) × (now to ≡ zeros 1024) ⌝ }
-    requires { ⌜ now known ≡ zeros (length (now known)) ⌝ }
-    ensures { λ r. ⌜ r ≡ answerOf (inferredIn (now (keys .entry)) (now (balances .entry)) (now (pack .entry)) (now (at .entry))) ⌝ }
-    ensures { λ _. ⌜ now (rows .exit) ≡ sets (now (rows .entry)) 0 (rowsOf (inferredIn (now (keys .entry)) (now (balances .entry)) (now (pack .entry)) (now (at .entry)))) ⌝ }
-    ensures { λ _. ⌜ now (known .exit) ≡ sets (now (known .entry)) 0 (finalOf (inferredIn (now (keys .entry)) (now (balances .entry)) (now (pack .entry)) (now (at .entry))) (keyOf (now (keys .entry))) (keyCount (now (keys .entry)))) ⌝ }
-    ensures { λ _. ⌜ now (programs .exit) ≡ sets (now (programs .entry)) 0 (programsOf (now (keys .entry)) (now (pack .entry)) (now (at .entry))) ⌝ }
-{
-    let ready = prepare(keys, balances, pack, at, table, row, from, to, programs);
-    let count = ready.count;
-    let ran = pass::run(table, from, to, count, ready.room);
-    if ran.passes == 513 {
-        return Inferred::TooManyPasses;
-    }
-    pass::doubts(table, from, to, count);
-    let k = publish(table, ready.rows, row, ids::key_count(keys), rows, known);
-    Inferred::Made(ran.room, k, ran.passes)
 }
 
 // The first 256 rows of a key section: no pack that is read has more.
@@ -147,29 +117,23 @@ pub fn infer(
     known: &mut [u8; 8192],
     programs: &mut [u8; 1024],
 ) -> Inferred
-    ensures { λ r. ⌜ r ≡ answerOf (inferredIn (take 8448 (now (keys .entry))) (now (balances .entry)) (now (pack .entry)) (take 1024 (now (at .entry)))) ⌝ }
-    ensures { λ _. ⌜ now (rows .exit) ≡ sets (now (rows .entry)) 0 (rowsOf (inferredIn (take 8448 (now (keys .entry))) (now (balances .entry)) (now (pack .entry)) (take 1024 (now (at .entry))))) ⌝ }
-    ensures { λ _. ⌜ now (known .exit) ≡ sets (zeros 8192) 0 (finalOf (inferredIn (take 8448 (now (keys .entry))) (now (balances .entry)) (now (pack .entry)) (take 1024 (now (at .entry)))) (keyOf (take 8448 (now (keys .entry)))) (keyCount (take 8448 (now (keys .entry))))) ⌝ }
-    ensures { λ _. ⌜ now (programs .exit) ≡ sets (now (programs .entry)) 0 (programsOf (take 8448 (now (keys .entry))) (now (pack .entry)) (take 1024 (now (at .entry)))) ⌝ }
+    ensures { λ r. ⌜ r ≡ answerOf (inferredOf (now (keys .entry)) (now (balances .entry)) (now (pack .entry)) (now (at .entry))) ⌝ }
+    ensures { λ _. ⌜ now (rows .exit)
+        ≡ sets (now (rows .entry)) 0 (mintBytes (inferredOf (now (keys .entry)) (now (balances .entry)) (now (pack .entry)) (now (at .entry)))) ⌝ }
+    ensures { λ _. ⌜ now (known .exit)
+        ≡ sets (zeros 8192) 0 (finalFor (now (keys .entry)) (inferredOf (now (keys .entry)) (now (balances .entry)) (now (pack .entry)) (now (at .entry)))) ⌝ }
+    ensures { λ _. ⌜ now (programs .exit)
+        ≡ sets (now (programs .entry)) 0 (programsOf (take 8448 (now (keys .entry))) (now (pack .entry)) (take 1024 (now (at .entry)))) ⌝ }
 {
     *known = [0u8; 8192];
     let keys = first_keys(keys);
     let at = first_offsets(at);
     let mut table = [0u8; 257 * WIDTH];
     let mut row = [0u32; 256];
-    let mut from = [0u32; 1024];
-    let mut to = [0u32; 1024];
-    work(
-        keys,
-        balances,
-        pack,
-        at,
-        &mut table,
-        &mut row,
-        &mut from,
-        &mut to,
-        rows,
-        known,
-        programs,
-    )
+    let done = conclude(keys, balances, pack, at, &mut table, &mut row, programs);
+    if done.passes == 513 {
+        return Inferred::TooManyPasses;
+    }
+    let k = publish(&table, done.rows, &row, ids::key_count(keys), rows, known);
+    Inferred::Made(done.room, k, done.passes)
 }

@@ -1,15 +1,15 @@
 // Evidence into the table: a first mint is recorded, another one makes the account ambiguous for good.
 ghost use mathlib.Core.Path.{_≡_};
-ghost use Prim.Native.Nat.{_+_, _*_, _/_, _≤_};
+ghost use Prim.Native.Nat.{suc, _+_, _*_, _/_, _≤_, _<_};
 ghost use mathlib.Core.Bool.{cond};
 ghost use lib.Dec.{ltb};
-ghost use lib.ListN.{length, getD};
+ghost use lib.ListN.{length, getD, set};
 ghost use lib.Seq.{sets};
 ghost use Rattle.wire.specs.Same.{same};
 ghost use Rattle.ids.specs.Keys.{zeroKey, keyAt, keyCount, keyOf};
 ghost use Rattle.mints.specs.Bytes.{mintWidth};
 ghost use Rattle.mints.specs.Cells.{Fits};
-ghost use Rattle.mints.specs.Gather.{rowOf, noteAccount, observed, isPlain, Gathers};
+ghost use Rattle.mints.specs.Gather.{rowOfAccount, noteAccount, observed, isPlain, gatherAll};
 ghost use Rattle.mints.specs.Note.{recordAt, newAt, balancesTo};
 ghost use Rattle.mints.specs.Programs.{programsOf};
 use crate::WIDTH;
@@ -66,7 +66,8 @@ pub(crate) fn note(table: &mut [u8], r: usize, mint: &[u8]) -> usize
 // Records the balance rows; answers how many accounts are recorded.
 pub(crate) fn note_balances(balances: &[u8], row: &[u32], table: &mut [u8]) -> usize
     requires { ⌜ Fits (now table) (now row) ⌝ }
-    ensures { λ n. ⌜ (now (table .exit) ≡ balancesTo (now (balances .entry)) (now (row .entry)) (now (table .entry)) (length (now (balances .entry)) / 36) .table) × (n ≡ balancesTo (now (balances .entry)) (now (row .entry)) (now (table .entry)) (length (now (balances .entry)) / 36) .room) ⌝ }
+    ensures { λ n. ⌜ balancesTo (now (balances .entry)) (now (row .entry)) (now (table .entry)) (length (now (balances .entry)) / 36)
+        ≡ record { table = now (table .exit); room = n } ⌝ }
 {
     let mut room = 0;
     let mut i = 0;
@@ -81,7 +82,7 @@ pub(crate) fn note_balances(balances: &[u8], row: &[u32], table: &mut [u8]) -> u
 
 // The row of an instruction's account i.
 fn account_row(row: &[u32], accounts: &[u8], i: usize) -> usize
-    ensures { λ r. ⌜ r ≡ rowOf (now (row .entry)) (now (accounts .entry)) i ⌝ }
+    ensures { λ r. ⌜ r ≡ rowOfAccount (now (row .entry)) (now (accounts .entry)) i ⌝ }
 {
     if i < accounts.len() {
         row_of(row, wire::byte(accounts, i) as usize)
@@ -111,7 +112,8 @@ fn note_account(
     i: usize,
 ) -> usize
     requires { ⌜ (room ≤ 2305843009213693952) × Fits (now table) (now row) ⌝ }
-    ensures { λ n. ⌜ (now (table .exit) ≡ noteAccount (keyOf (now (keys .entry))) (now (row .entry)) (now (accounts .entry)) (record { table = now (table .entry); room = room }) i .table) × (n ≡ noteAccount (keyOf (now (keys .entry))) (now (row .entry)) (now (accounts .entry)) (record { table = now (table .entry); room = room }) i .room) ⌝ }
+    ensures { λ n. ⌜ noteAccount (keyOf (now (keys .entry))) (now (row .entry)) (now (accounts .entry)) (record { table = now (table .entry); room = room }) i
+        ≡ record { table = now (table .exit); room = n } ⌝ }
 {
     let blank = [0u8; 32];
     let mint = account_key(keys, &blank, accounts, 1);
@@ -129,7 +131,8 @@ fn observe(
     room: usize,
 ) -> usize
     requires { ⌜ (room ≤ 1152921504606846976) × Fits (now table) (now row) ⌝ }
-    ensures { λ n. ⌜ (now (table .exit) ≡ observed (keyOf (now (keys .entry))) (now (row .entry)) token (now (accounts .entry)) (record { table = now (table .entry); room = room }) .table) × (n ≡ observed (keyOf (now (keys .entry))) (now (row .entry)) token (now (accounts .entry)) (record { table = now (table .entry); room = room }) .room) ⌝ }
+    ensures { λ n. ⌜ observed (keyOf (now (keys .entry))) (now (row .entry)) token (now (accounts .entry)) (record { table = now (table .entry); room = room })
+        ≡ record { table = now (table .exit); room = n } ⌝ }
 {
     match token {
         Token::Other => room,
@@ -158,6 +161,30 @@ fn is_plain(token: Token) -> bool
     }
 }
 
+// Adds the rows of a plain transfer's source and destination to the lists; answers how many transfers they have then.
+fn list(
+    token: Token,
+    accounts: &[u8],
+    row: &[u32],
+    from: &mut [u32],
+    to: &mut [u32],
+    count: usize,
+) -> usize
+    requires { ⌜ (count < length (now from)) × (count < length (now to)) ⌝ }
+    ensures { λ n. ⌜ n ≡ cond (isPlain token) (suc count) count ⌝ }
+    ensures { λ _. ⌜ now (from .exit)
+        ≡ cond (isPlain token) (set (now (from .entry)) count (rowOfAccount (now (row .entry)) (now (accounts .entry)) 0)) (now (from .entry)) ⌝ }
+    ensures { λ _. ⌜ now (to .exit)
+        ≡ cond (isPlain token) (set (now (to .entry)) count (rowOfAccount (now (row .entry)) (now (accounts .entry)) 1)) (now (to .entry)) ⌝ }
+{
+    if !is_plain(token) {
+        return count;
+    }
+    from[count] = account_row(row, accounts, 0) as u32;
+    to[count] = account_row(row, accounts, 1) as u32;
+    count + 1
+}
+
 // How many accounts are recorded, and how many plain transfers there are.
 pub struct Gathered {
     pub room: usize,
@@ -174,22 +201,22 @@ pub(crate) fn gather(
     table: &mut [u8],
     from: &mut [u32],
     to: &mut [u32],
-    recorded: usize,
     programs: &mut [u8; 1024],
 ) -> Gathered
-    requires { ⌜ (length (now at) ≤ length (now from)) × (length (now at) ≤ length (now to)) × (length (now at) ≤ 1024) × (recorded ≤ 576460752303423488) ⌝ }
-    requires { ⌜ (length (now table) ≤ 65536) × Fits (now table) (now row) × (keyCount (now keys) ≤ 256) ⌝ }
-    ensures { λ r. ⌜ Gathers (now (keys .entry)) (now (pack .entry)) (now (at .entry)) (now (row .entry)) (now (table .entry)) (now (from .entry)) (now (to .entry)) recorded (now (table .exit)) (now (from .exit)) (now (to .exit)) (r .room) (r .count) ⌝ }
+    requires { ⌜ (length (now at) ≤ length (now from)) × (length (now at) ≤ length (now to)) × (length (now at) ≤ 1024) ⌝ }
+    requires { ⌜ Fits (now table) (now row) × (keyCount (now keys) ≤ 256) ⌝ }
+    ensures { λ r. ⌜ gatherAll (now (keys .entry)) (now (pack .entry)) (now (at .entry)) (now (row .entry)) (now (table .entry)) (now (from .entry)) (now (to .entry))
+        ≡ record { noted = record { table = now (table .exit); room = r .room }; from = now (from .exit); to = now (to .exit); count = r .count } ⌝ }
     ensures { λ _. ⌜ now (programs .exit) ≡ sets (now (programs .entry)) 0 (programsOf (now (keys .entry)) (now (pack .entry)) (now (at .entry))) ⌝ }
 {
-    let mut cases = [0u8; 256];
-    ids::cases::fill(keys, &mut cases);
-    let mut room = recorded;
+    let mut numbers = [0u8; 256];
+    ids::programs::fill(keys, &mut numbers);
+    let mut room = 0;
     let mut count = 0;
     let mut i = 0;
     while i < at.len() {
         let o = at[i] as usize;
-        let number = ids::cases::number(&cases, pack::program(pack, o) as usize);
+        let number = ids::programs::number(&numbers, pack::program(pack, o) as usize);
         programs[i] = number;
         i += 1;
         let id = ids::of_number(number);
@@ -200,12 +227,7 @@ pub(crate) fn gather(
         let accounts = pack::accounts(pack, o);
         let token = token::parse(id, accounts.len(), pack::data(pack, o));
         room = observe(token, keys, accounts, row, table, room);
-        if !is_plain(token) {
-            continue;
-        }
-        from[count] = account_row(row, accounts, 0) as u32;
-        to[count] = account_row(row, accounts, 1) as u32;
-        count += 1;
+        count = list(token, accounts, row, from, to, count);
     }
     Gathered { room, count }
 }

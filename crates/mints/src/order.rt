@@ -9,7 +9,7 @@ ghost use Rattle.wire.specs.Zeros.{zeros};
 ghost use Rattle.evidence.specs.Keys.{ltKey};
 ghost use Rattle.mints.specs.Bytes.{mintWidth};
 ghost use Rattle.mints.specs.Cells.{Fits};
-ghost use Rattle.mints.specs.Order.{spotIn, Rising, putIn, sortTo, rowsBytes, mintOf, Blank, mintsTo};
+ghost use Rattle.mints.specs.Order.{spotIn, Rising, putIn, sortTo, rowsBytes, shownMint, Blank, mintsTo};
 
 // Whether both have eight bytes from place i on, and the same ones: they are compared at once.
 fn alike(a: &[u8], b: &[u8], i: usize) -> bool
@@ -126,7 +126,7 @@ pub(crate) fn write_rows(table: &[u8], order: &[u32], k: usize, out: &mut [u8])
 // Writes the mint of row r to where the mint of key index i stands. A row with none leaves what is there, which is zero.
 fn write_mint(table: &[u8], r: usize, i: usize, out: &mut [u8])
     requires { ⌜ (r * mintWidth + mintWidth ≤ length (now table)) × (i < 65536) × Blank (now out) (i * 32) ⌝ }
-    ensures { λ _. ⌜ now (out .exit) ≡ sets (now (out .entry)) (i * 32) (mintOf (now (table .entry)) r) ⌝ }
+    ensures { λ _. ⌜ now (out .exit) ≡ sets (now (out .entry)) (i * 32) (shownMint (now (table .entry)) r) ⌝ }
 {
     let x = r * WIDTH + 32;
     if 1 < table[r * WIDTH + 64] {

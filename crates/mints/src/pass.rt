@@ -8,7 +8,7 @@ ghost use Prim.Native.Nat.{_+_, _*_, _≤_};
 ghost use lib.ListN.{length};
 ghost use Rattle.mints.specs.Bytes.{mintWidth};
 ghost use Rattle.mints.specs.Cells.{Fits};
-ghost use Rattle.mints.specs.Pass.{handAt, stepAt, filledAt, passTo, passes, differAt, doubtAt, doubtsTo};
+ghost use Rattle.mints.specs.Pass.{handAt, stepAt, filledAt, passTo, passes, differAt, doubtAt, doubtsTo, handedOn};
 
 // Copies the mint of row a to row b, which is then filled in.
 fn hand(table: &mut [u8], a: usize, b: usize)
@@ -50,7 +50,7 @@ fn step(table: &mut [u8], a: usize, b: usize) -> usize
 // One pass over the n transfers; answers how many accounts are filled in.
 fn pass(table: &mut [u8], from: &[u32], to: &[u32], n: usize) -> usize
     requires { ⌜ (n ≤ length (now from)) × (n ≤ length (now to)) × Fits (now table) (now from) × Fits (now table) (now to) ⌝ }
-    ensures { λ k. ⌜ (now (table .exit) ≡ passTo (now (from .entry)) (now (to .entry)) (now (table .entry)) n .table) × (k ≡ passTo (now (from .entry)) (now (to .entry)) (now (table .entry)) n .room) ⌝ }
+    ensures { λ k. ⌜ passTo (now (from .entry)) (now (to .entry)) (now (table .entry)) n ≡ record { table = now (table .exit); room = k } ⌝ }
 {
     let mut added = 0;
     let mut i = 0;
@@ -67,10 +67,11 @@ pub struct Ran {
 }
 
 // Passes until one adds nothing, at most 512 (513 tells that these are too few); none where nothing is recorded.
-pub(crate) fn run(table: &mut [u8], from: &[u32], to: &[u32], n: usize, recorded: usize) -> Ran
+fn run(table: &mut [u8], from: &[u32], to: &[u32], n: usize, recorded: usize) -> Ran
     requires { ⌜ (n ≤ 1024) × (recorded ≤ 1152921504606846976) ⌝ }
     requires { ⌜ (n ≤ length (now from)) × (n ≤ length (now to)) × Fits (now table) (now from) × Fits (now table) (now to) ⌝ }
-    ensures { λ r. ⌜ (now (table .exit) ≡ passes (now (from .entry)) (now (to .entry)) n (now (table .entry)) recorded .table) × (r .room ≡ passes (now (from .entry)) (now (to .entry)) n (now (table .entry)) recorded .room) × (r .passes ≡ passes (now (from .entry)) (now (to .entry)) n (now (table .entry)) recorded .passes) ⌝ }
+    ensures { λ r. ⌜ passes (now (from .entry)) (now (to .entry)) n (now (table .entry)) recorded
+        ≡ record { table = now (table .exit); room = r .room; passes = r .passes } ⌝ }
 {
     let mut room = recorded;
     if room == 0 {
@@ -115,7 +116,7 @@ fn doubt(table: &mut [u8], r: usize)
 }
 
 // Marks the filled-in ends of every transfer whose ends have different mints.
-pub(crate) fn doubts(table: &mut [u8], from: &[u32], to: &[u32], n: usize)
+fn doubts(table: &mut [u8], from: &[u32], to: &[u32], n: usize)
     requires { ⌜ (n ≤ length (now from)) × (n ≤ length (now to)) × Fits (now table) (now from) × Fits (now table) (now to) ⌝ }
     ensures { λ _. ⌜ now (table .exit) ≡ doubtsTo (now (from .entry)) (now (to .entry)) (now (table .entry)) n ⌝ }
 {
@@ -130,4 +131,16 @@ pub(crate) fn doubts(table: &mut [u8], from: &[u32], to: &[u32], n: usize)
         doubt(table, a);
         doubt(table, b);
     }
+}
+
+// The passes, and then the marks, which count only where the passes are not too many.
+pub(crate) fn hand_on(table: &mut [u8], from: &[u32], to: &[u32], n: usize, recorded: usize) -> Ran
+    requires { ⌜ (n ≤ 1024) × (recorded ≤ 1152921504606846976) ⌝ }
+    requires { ⌜ (n ≤ length (now from)) × (n ≤ length (now to)) × Fits (now table) (now from) × Fits (now table) (now to) ⌝ }
+    ensures { λ r. ⌜ handedOn (now (from .entry)) (now (to .entry)) n (now (table .entry)) recorded
+        ≡ record { table = now (table .exit); room = r .room; passes = r .passes } ⌝ }
+{
+    let ran = run(table, from, to, n, recorded);
+    doubts(table, from, to, n);
+    ran
 }

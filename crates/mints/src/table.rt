@@ -11,7 +11,7 @@ ghost use lib.ListN.{length};
 ghost use lib.Seq.{sets};
 ghost use Rattle.ids.specs.Keys.{keyCount, keyOf};
 ghost use Rattle.mints.specs.Bytes.{mintWidth};
-ghost use Rattle.mints.specs.Cells.{firstRow, Ends};
+ghost use Rattle.mints.specs.Cells.{firstRow, LastBytesSeen};
 ghost use Rattle.mints.specs.Lay.{laid};
 
 // The first of the table's rows that holds the key, or `rows` where none does.
@@ -44,7 +44,7 @@ fn find(table: &[u8], rows: usize, key: &[u8]) -> usize
 
 // The same where `ends` tells which last bytes the rows' accounts have: a key with another one is new, and most new keys are found so without a search.
 fn row_for(table: &[u8], rows: usize, ends: &[u8; 256], key: &[u8]) -> usize
-    requires { ⌜ (length (now key) ≡ 32) × (rows * mintWidth ≤ length (now table)) × Ends (now table) rows (now ends) ⌝ }
+    requires { ⌜ (length (now key) ≡ 32) × (rows * mintWidth ≤ length (now table)) × LastBytesSeen (now table) rows (now ends) ⌝ }
     ensures { λ r. ⌜ r ≡ firstRow (now (table .entry)) (now (key .entry)) rows ⌝ }
 {
     if ends[wire::byte(key, 31) as usize] == 0 {
@@ -56,7 +56,8 @@ fn row_for(table: &[u8], rows: usize, ends: &[u8; 256], key: &[u8]) -> usize
 // Adds a row for the key where the search found none; answers how many rows there are then.
 fn add(table: &mut [u8], rows: usize, r: usize, key: &[u8]) -> usize
     requires { ⌜ suc rows * mintWidth ≤ length (now table) ⌝ }
-    ensures { λ n. ⌜ (now (table .exit) ≡ cond (eqb r rows) (sets (now (table .entry)) (r * mintWidth) (now (key .entry))) (now (table .entry))) × (n ≡ cond (eqb r rows) (suc rows) rows) ⌝ }
+    ensures { λ _. ⌜ now (table .exit) ≡ cond (eqb r rows) (sets (now (table .entry)) (r * mintWidth) (now (key .entry))) (now (table .entry)) ⌝ }
+    ensures { λ n. ⌜ n ≡ cond (eqb r rows) (suc rows) rows ⌝ }
 {
     if r == rows {
         wire::put(table, r * WIDTH, key);
@@ -69,7 +70,8 @@ fn add(table: &mut [u8], rows: usize, r: usize, key: &[u8]) -> usize
 // bytes of the rows are marked in it.
 fn lay_marking(keys: &[u8], table: &mut [u8], row: &mut [u32], ends: &mut [u8; 256]) -> usize
     requires { ⌜ (keyCount (now keys) ≤ length (now row)) × (suc (keyCount (now keys)) * mintWidth ≤ length (now table)) × (length (now table) ≤ 65536) × (length (now ends) ≡ 256) ⌝ }
-    ensures { λ n. ⌜ (now (table .exit) ≡ laid (keyOf (now (keys .entry))) (now (table .entry)) (now (row .entry)) (keyCount (now (keys .entry))) .table) × (now (row .exit) ≡ laid (keyOf (now (keys .entry))) (now (table .entry)) (now (row .entry)) (keyCount (now (keys .entry))) .row) × (n ≡ laid (keyOf (now (keys .entry))) (now (table .entry)) (now (row .entry)) (keyCount (now (keys .entry))) .rows) ⌝ }
+    ensures { λ n. ⌜ laid (keyOf (now (keys .entry))) (now (table .entry)) (now (row .entry)) (keyCount (now (keys .entry)))
+        ≡ record { table = now (table .exit); row = now (row .exit); rows = n } ⌝ }
 {
     let blank = [0u8; 32];
     table[64] = 1;
@@ -90,7 +92,8 @@ fn lay_marking(keys: &[u8], table: &mut [u8], row: &mut [u32], ends: &mut [u8; 2
 // The same, with an array of its own for the last bytes.
 pub(crate) fn lay(keys: &[u8], table: &mut [u8], row: &mut [u32]) -> usize
     requires { ⌜ (keyCount (now keys) ≤ length (now row)) × (suc (keyCount (now keys)) * mintWidth ≤ length (now table)) × (length (now table) ≤ 65536) ⌝ }
-    ensures { λ n. ⌜ (now (table .exit) ≡ laid (keyOf (now (keys .entry))) (now (table .entry)) (now (row .entry)) (keyCount (now (keys .entry))) .table) × (now (row .exit) ≡ laid (keyOf (now (keys .entry))) (now (table .entry)) (now (row .entry)) (keyCount (now (keys .entry))) .row) × (n ≡ laid (keyOf (now (keys .entry))) (now (table .entry)) (now (row .entry)) (keyCount (now (keys .entry))) .rows) ⌝ }
+    ensures { λ n. ⌜ laid (keyOf (now (keys .entry))) (now (table .entry)) (now (row .entry)) (keyCount (now (keys .entry)))
+        ≡ record { table = now (table .exit); row = now (row .exit); rows = n } ⌝ }
 {
     let mut ends = [0u8; 256];
     lay_marking(keys, table, row, &mut ends)

@@ -3,7 +3,7 @@
 use mathlib.Core.Path.{_≡_, refl, sym, _∙_, subst}
 use mathlib.Core.List.{List, [], _∷_, _++_}
 use mathlib.Core.Option.{Option, some, Option·none-ne-some, Option·some-injective}
-use Prim.Native.Nat.{ℕ, _*_}
+use Prim.Native.Nat.{ℕ}
 use native.Mathlib.Omega.{arith}
 use lib.ListN.{length, set, length-append}
 use lib.Seq.{sets}
@@ -11,11 +11,10 @@ use Rattle.wire.proofs.Sets.{sets-next, sets-whole}
 use Rattle.wire.specs.Le.{leBytes}
 use Rattle.wire.proofs.Laws.{leBytes-length}
 use Rattle.ids.specs.declared.Id.{Id}
-use Rattle.ids.specs.Keys.{Key, zeroKey, keyOf}
-use Rattle.ids.proofs.Keys.{key-length}
-use Rattle.natives.specs.Natives.{NativeAction, nativeAction, given}
-use Rattle.natives.specs.Numbers.{valueOf, actedOf, actionOf}
-use Rattle.natives.specs.Rows.{actionWidth, fieldsOf, rowBy, rowsOf}
+use Rattle.ids.specs.Keys.{Key, zeroKey}
+use Rattle.natives.specs.Natives.{NativeAction, nativeAction}
+use Rattle.natives.specs.Numbers.{actionValue, actedOf, actionInNumbers}
+use Rattle.natives.specs.Rows.{actionWidth, fieldsOf, actionRowBy}
 use Rattle.natives.specs.declared.Native.{Native}
 use Rattle.natives.specs.declared.Native.the-variants.{Nothing, Fund, Sync, Close}
 use Rattle.natives.proofs.Laws.{native-is}
@@ -47,23 +46,15 @@ zero-length = refl
 
 -- so has the row of an action that counts, whose accounts are keys
 pub action-length : (κ : ℕ → Key) → ((j : ℕ) → length (κ j) ≡ 32) → (count : ℕ) (id : Id) (accounts bytes : List ℕ) (μ : Key → Option Key) {a : NativeAction}
-    → nativeAction κ count id accounts bytes μ ≡ some a → (i : ℕ) → length (rowBy i (a .held) (a .action)) ≡ actionWidth
+    → nativeAction κ count id accounts bytes μ ≡ some a → (i : ℕ) → length (actionRowBy i (a .held) (a .action)) ≡ actionWidth
 action-length κ long count id accounts bytes μ {a} e i =
-    go (actionOf count id accounts bytes (μ (κ (actedOf id accounts bytes)))) (sym (native-is κ count id accounts bytes μ) ∙ e)
+    go (actionInNumbers count id accounts bytes (μ (κ (actedOf id accounts bytes)))) (sym (native-is κ count id accounts bytes μ) ∙ e)
   where
-    by : {x : NativeAction} → length (rowBy i (x .held) (x .action)) ≡ actionWidth → some x ≡ some a → length (rowBy i (a .held) (a .action)) ≡ actionWidth
-    by {x} h q = subst (λ (y : NativeAction). length (rowBy i (y .held) (y .action)) ≡ actionWidth) (Option·some-injective x a q) h
+    by : {x : NativeAction} → length (actionRowBy i (x .held) (x .action)) ≡ actionWidth → some x ≡ some a → length (actionRowBy i (a .held) (a .action)) ≡ actionWidth
+    by {x} h q = subst (λ (y : NativeAction). length (actionRowBy i (y .held) (y .action)) ≡ actionWidth) (Option·some-injective x a q) h
 
-    go : (n : Native) → valueOf κ n ≡ some a → length (rowBy i (a .held) (a .action)) ≡ actionWidth
+    go : (n : Native) → actionValue κ n ≡ some a → length (actionRowBy i (a .held) (a .action)) ≡ actionWidth
     go Nothing q = absurd (Option·none-ne-some a q)
     go (Fund h s l) q = by (row-length i 1 (κ h) (κ s) zeroKey l (long h) (long s) zero-length) q
     go (Sync h) q = by (row-length i 2 (κ h) zeroKey zeroKey 0 (long h) zero-length zero-length) q
     go (Close h d o) q = by (row-length i 3 (κ h) (κ d) (κ o) 0 (long h) (long d) (long o)) q
-
--- what an instruction adds to the table: whole rows
-pub rows-length : (ks : List ℕ) (i : ℕ) (r : Native) → length (rowsOf i (valueOf (keyOf ks) r)) ≡ given (valueOf (keyOf ks) r) * actionWidth
-rows-length ks i Nothing = refl
-rows-length ks i (Fund h s l) = row-length i 1 (keyOf ks h) (keyOf ks s) zeroKey l (key-length ks h) (key-length ks s) zero-length
-rows-length ks i (Sync h) = row-length i 2 (keyOf ks h) zeroKey zeroKey 0 (key-length ks h) zero-length zero-length
-rows-length ks i (Close h d a) =
-    row-length i 3 (keyOf ks h) (keyOf ks d) (keyOf ks a) 0 (key-length ks h) (key-length ks d) (key-length ks a)

@@ -1,4 +1,4 @@
--- When data has the form of an action: what its tag and its length tell.
+-- When data has the form of an action: bytes and the number that they make tell the same, and each form has one length.
 -- Assumes nothing.
 use mathlib.Core.Path.{_≡_, refl, sym, ap, _∙_}
 use mathlib.Core.Bool.{Bool, true, false, cond, _&&_, and-false, false≢true}
@@ -7,7 +7,7 @@ use Prim.Native.Nat.{ℕ, _+_, _<_}
 use native.Mathlib.Omega.{arith}
 use lib.Dec.{leb, eqb}
 use lib.ListN.{length, getD, take, drop, take-append-drop}
-use borrow.Author.Tests.{eq-eqb, ne-eqb, eqb-false, ltb-true}
+use borrow.Author.Tests.{eq-eqb, ne-eqb, eqb-false}
 use Rattle.wire.specs.Le.{le, leBytes}
 use Rattle.wire.specs.Same.{same}
 use Rattle.wire.proofs.Same.{same-eq, same-ne, same-not-long}
@@ -42,9 +42,7 @@ alone (x ∷ y ∷ r) t h e = absurd (omega arith)
 -- no token program is System
 apart : (id : Id) → isToken id ≡ true → isSystem id ≡ false
 unfolding isToken isSystem
-apart id e =
-    let h = ltb-true (numberOf id) 2 e in
-    ne-eqb (numberOf id) 14 (λ (f : numberOf id ≡ 14). omega arith)
+apart id e = ne-eqb (numberOf id) 14 (λ (f : numberOf id ≡ 14). false≢true (rw f at e))
 
 -- a length that is no transfer's
 no-fund : (s b l n : Bool) → (s && l) ≡ false → (s && b && l && n) ≡ false

@@ -15,13 +15,13 @@ use Rattle.wire.specs.Same.{same}
 use Rattle.wire.proofs.Same.{same-true}
 use Rattle.wire.proofs.Below.{and-right}
 use Rattle.ids.specs.declared.Id.{Id}
-use Rattle.ids.specs.Ids.{ids, idAt}
+use Rattle.ids.specs.Ids.{ids, idAt, isWrappedSol}
 use Rattle.ids.specs.Keys.{Key, zeroKey}
 use Rattle.token.specs.Programs.{isToken}
 use Rattle.ids.specs.Mints.{isMint, mintOf}
 use Rattle.token.proofs.Laws.{there}
-use Rattle.natives.specs.Natives.{isSystem, funds, syncs, closes, asked, allBelow, wrapped, counted, nativeAction}
-use Rattle.natives.specs.Numbers.{valueOf, formOf, heldBy, isNothing, actedOf, settled, actionOf}
+use Rattle.natives.specs.Natives.{isSystem, funds, syncs, closes, asked, indexesBelow, wrapped, counted, nativeAction}
+use Rattle.natives.specs.Numbers.{actionValue, formOf, heldBy, isNothing, actedOf, settled, actionInNumbers}
 use Rattle.natives.specs.declared.Native.{Native}
 use Rattle.natives.specs.declared.Native.the-variants.{Nothing, Fund, Sync, Close}
 
@@ -38,47 +38,47 @@ module _ (κ : ℕ → Key) (id : Id) (accounts d : List ℕ) where
   unfolding closes
   close-floor e = leb-true 3 (length accounts) (and-right (isToken id && same d (9 ∷ [])) (leb 3 (length accounts)) e)
 
-  form-value : valueOf κ (formOf id accounts d) ≡ asked κ id accounts d
+  form-value : actionValue κ (formOf id accounts d) ≡ asked κ id accounts d
   unfolding formOf asked
   form-value = go (funds id (length accounts) d) refl (syncs id (length accounts) d) refl (closes id (length accounts) d) refl
     where
-      go : (f : Bool) → funds id (length accounts) d ≡ f → (s : Bool) → syncs id (length accounts) d ≡ s → (c : Bool) → closes id (length accounts) d ≡ c → valueOf κ (formOf id accounts d) ≡ asked κ id accounts d
+      go : (f : Bool) → funds id (length accounts) d ≡ f → (s : Bool) → syncs id (length accounts) d ≡ s → (c : Bool) → closes id (length accounts) d ≡ c → actionValue κ (formOf id accounts d) ≡ asked κ id accounts d
       go true e s f c g = rw (e, there κ accounts 0 (omega (arith, fund-floor e)), there κ accounts 1 (omega (arith, fund-floor e)))
       go false e true f c g = rw (e, f, there κ accounts 0 (omega (arith, sync-floor f)))
       go false e false f true g = rw (e, f, g, there κ accounts 0 (omega (arith, close-floor g)), there κ accounts 1 (omega (arith, close-floor g)), there κ accounts 2 (omega (arith, close-floor g)))
       go false e false f false g = rw (e, f, g)
 
 -- what counts of an action, by its number
-counted-value : (κ : ℕ → Key) (count : ℕ) (accounts : List ℕ) (μ : Key → Option Key) (f : Native) → counted count accounts μ (valueOf κ f) ≡ valueOf κ (cond (allBelow count accounts && wrapped (μ (κ (heldBy f)))) f Nothing)
+counted-value : (κ : ℕ → Key) (count : ℕ) (accounts : List ℕ) (μ : Key → Option Key) (f : Native) → counted count accounts μ (actionValue κ f) ≡ actionValue κ (cond (indexesBelow count accounts && wrapped (μ (κ (heldBy f)))) f Nothing)
 unfolding counted
-counted-value κ count accounts μ Nothing = go (allBelow count accounts && wrapped (μ (κ 0)))
+counted-value κ count accounts μ Nothing = go (indexesBelow count accounts && wrapped (μ (κ 0)))
   where
-    go : (b : Bool) → none ≡ valueOf κ (cond b Nothing Nothing)
+    go : (b : Bool) → none ≡ actionValue κ (cond b Nothing Nothing)
     go true = refl
     go false = refl
-counted-value κ count accounts μ (Fund h s l) = go (allBelow count accounts && wrapped (μ (κ h)))
+counted-value κ count accounts μ (Fund h s l) = go (indexesBelow count accounts && wrapped (μ (κ h)))
   where
-    go : (b : Bool) → cond b (valueOf κ (Fund h s l)) none ≡ valueOf κ (cond b (Fund h s l) Nothing)
+    go : (b : Bool) → cond b (actionValue κ (Fund h s l)) none ≡ actionValue κ (cond b (Fund h s l) Nothing)
     go true = refl
     go false = refl
-counted-value κ count accounts μ (Sync h) = go (allBelow count accounts && wrapped (μ (κ h)))
+counted-value κ count accounts μ (Sync h) = go (indexesBelow count accounts && wrapped (μ (κ h)))
   where
-    go : (b : Bool) → cond b (valueOf κ (Sync h)) none ≡ valueOf κ (cond b (Sync h) Nothing)
+    go : (b : Bool) → cond b (actionValue κ (Sync h)) none ≡ actionValue κ (cond b (Sync h) Nothing)
     go true = refl
     go false = refl
-counted-value κ count accounts μ (Close h d a) = go (allBelow count accounts && wrapped (μ (κ h)))
+counted-value κ count accounts μ (Close h d a) = go (indexesBelow count accounts && wrapped (μ (κ h)))
   where
-    go : (b : Bool) → cond b (valueOf κ (Close h d a)) none ≡ valueOf κ (cond b (Close h d a) Nothing)
+    go : (b : Bool) → cond b (actionValue κ (Close h d a)) none ≡ actionValue κ (cond b (Close h d a) Nothing)
     go true = refl
     go false = refl
 
 -- the Rust's answer is what counts of the form, for the mint of the account that it acts on
-pub native-is : (κ : ℕ → Key) (count : ℕ) (id : Id) (accounts d : List ℕ) (μ : Key → Option Key) → nativeAction κ count id accounts d μ ≡ valueOf κ (actionOf count id accounts d (μ (κ (actedOf id accounts d))))
+pub native-is : (κ : ℕ → Key) (count : ℕ) (id : Id) (accounts d : List ℕ) (μ : Key → Option Key) → nativeAction κ count id accounts d μ ≡ actionValue κ (actionInNumbers count id accounts d (μ (κ (actedOf id accounts d))))
 unfolding nativeAction settled
 native-is κ count id accounts d μ = rw (← form-value κ id accounts d) (counted-value κ count accounts μ (formOf id accounts d))
 
 -- and so for any mint that is handed over
-pub settled-value : (κ : ℕ → Key) (count : ℕ) (id : Id) (accounts d : List ℕ) (m : Option Key) → valueOf κ (settled count (formOf id accounts d) accounts m) ≡ nativeAction κ count id accounts d (λ _. m)
+pub settled-value : (κ : ℕ → Key) (count : ℕ) (id : Id) (accounts d : List ℕ) (m : Option Key) → actionValue κ (settled count (formOf id accounts d) accounts m) ≡ nativeAction κ count id accounts d (λ _. m)
 settled-value κ count id accounts d m = sym (native-is κ count id accounts d (λ _. m))
 
 -- no other program has an action
@@ -92,38 +92,38 @@ idle κ count id accounts d μ e = go (isToken id) refl (isSystem id) refl e
     go false p false q f = rw (p, q)
 
 -- a mint that is handed over as bytes
-wsol-known : mintOf (idAt 2) ≡ some (idAt 2)
+wrapped-known : mintOf (idAt 2) ≡ some (idAt 2)
 unfolding mintOf isMint zeroKey ids same
-wsol-known = refl
+wrapped-known = refl
 
-pub wrapped-mint : (m : List ℕ) → wrapped (mintOf m) ≡ same (idAt 2) m
-unfolding wrapped mintOf
+pub wrapped-mint : (m : List ℕ) → wrapped (mintOf m) ≡ isWrappedSol m
+unfolding wrapped mintOf isWrappedSol
 wrapped-mint m = go (same (idAt 2) m) refl (isMint m) refl
   where
     go : (b : Bool) → same (idAt 2) m ≡ b → (t : Bool) → isMint m ≡ t → wrapped (mintOf m) ≡ same (idAt 2) m
-    go true e t f = subst (λ (k : Key). wrapped (mintOf k) ≡ same (idAt 2) k) (same-true (idAt 2) m e) (rw wsol-known)
+    go true e t f = subst (λ (k : Key). wrapped (mintOf k) ≡ same (idAt 2) k) (same-true (idAt 2) m e) (rw wrapped-known)
     go false e true f = rw f
     go false e false f = rw (f, e)
 
 -- the test of all indexes, from place i on
 module _ (count : ℕ) (l : List ℕ) (i : ℕ) where
-  pub below-next : i < length l → getD l i 0 < count → allBelow count (drop i l) ≡ allBelow count (drop (i + 1) l)
-  unfolding allBelow
+  pub below-next : i < length l → getD l i 0 < count → indexesBelow count (drop i l) ≡ indexesBelow count (drop (i + 1) l)
+  unfolding indexesBelow
   below-next h e = rw (drop-cons l i 0 h, add-one i, lt-ltb (getD l i 0) count e)
 
-  pub below-stop : i < length l → count ≤ getD l i 0 → allBelow count (drop i l) ≡ false
-  unfolding allBelow
+  pub below-stop : i < length l → count ≤ getD l i 0 → indexesBelow count (drop i l) ≡ false
+  unfolding indexesBelow
   below-stop h e = rw (drop-cons l i 0 h, le-ltb (getD l i 0) count e)
 
-  pub below-end : i ≡ length l → allBelow count (drop i l) ≡ true
-  unfolding allBelow
+  pub below-end : i ≡ length l → indexesBelow count (drop i l) ≡ true
+  unfolding indexesBelow
   below-end e = rw (e, drop-length l)
 
 -- three tests leave nothing, and what passes them counts
 module _ (count : ℕ) (asked : Native) (accounts : List ℕ) (m : Option Key) where
   pub no-form : isNothing asked ≡ true → Nothing ≡ settled count asked accounts m
   unfolding settled
-  no-form e = go asked e (allBelow count accounts && wrapped m)
+  no-form e = go asked e (indexesBelow count accounts && wrapped m)
     where
       go : (f : Native) → isNothing f ≡ true → (b : Bool) → Nothing ≡ cond b f Nothing
       go Nothing q true = refl
@@ -136,10 +136,10 @@ module _ (count : ℕ) (asked : Native) (accounts : List ℕ) (m : Option Key) w
   unfolding settled
   other-mint e = rw (e, and-false)
 
-  pub no-key : allBelow count accounts ≡ false → Nothing ≡ settled count asked accounts m
+  pub no-key : indexesBelow count accounts ≡ false → Nothing ≡ settled count asked accounts m
   unfolding settled
   no-key e = rw e
 
-  pub counts : wrapped m ≡ true → allBelow count accounts ≡ true → asked ≡ settled count asked accounts m
+  pub counts : wrapped m ≡ true → indexesBelow count accounts ≡ true → asked ≡ settled count asked accounts m
   unfolding settled
   counts e f = rw (e, f)

@@ -1,4 +1,5 @@
--- Every account and number of a native action is the one that the published layout has under its name.
+-- Every account and number of a native action is the one that the published layout has under its name: an instruction that is taken has all the accounts that
+-- are read, and a layout's names stand at known places.
 -- Assumes nothing.
 use mathlib.Core.Path.{_≡_, refl}
 use mathlib.Core.Bool.{Bool, true, false}

@@ -9,9 +9,10 @@ use lib.ListN.{length, take}
 use Rattle.wire.specs.Le.{le}
 use Rattle.wire.specs.Same.{same}
 use Rattle.ids.specs.declared.Id.{Id}
-use Rattle.ids.specs.Which.{numberOf}
+use Rattle.ids.specs.declared.Id.the-variants.{System}
+use Rattle.ids.specs.Which.{sameId}
 use Rattle.ids.specs.Keys.{Key, account}
-use Rattle.ids.specs.Ids.{idAt}
+use Rattle.ids.specs.Ids.{isWrappedSol}
 use Rattle.token.specs.Programs.{isToken}
 
 pub data Action : Type 0 where
@@ -26,7 +27,7 @@ pub record NativeAction : Type 0 where
 
 -- the System program: a zero key that is resolved. A program that is not resolved has a case of its own, so it is neither System nor a token program
 unfoldable pub isSystem : Id → Bool
-isSystem id = eqb (numberOf id) 14
+isSystem id = sameId id System
 
 -- fund: System, 12 bytes that begin 2, 0, 0, 0, two accounts
 unfoldable pub funds : Id → ℕ → List ℕ → Bool
@@ -49,24 +50,19 @@ asked κ id accounts d =
     none))
 
 -- every account index, of accounts that are not used too, is below the key count
-unfoldable pub allBelow : ℕ → List ℕ → Bool
-allBelow count [] = true
-allBelow count (i ∷ is) = ltb i count && allBelow count is
+unfoldable pub indexesBelow : ℕ → List ℕ → Bool
+indexesBelow count [] = true
+indexesBelow count (i ∷ is) = ltb i count && indexesBelow count is
 
--- the mint is wrapped SOL, row 2 of the ids
+-- the mint is there, and is wrapped SOL
 unfoldable pub wrapped : Option Key → Bool
 wrapped none = false
-wrapped (some m) = same (idAt 2) m
+wrapped (some m) = isWrappedSol m
 
 -- an action counts where the mint of the account it acts on is wrapped SOL; μ gives the final mint of an account
 unfoldable pub counted : ℕ → List ℕ → (Key → Option Key) → Option NativeAction → Option NativeAction
 counted count accounts μ none = none
-counted count accounts μ (some a) = cond (allBelow count accounts && wrapped (μ (a .held))) (some a) none
+counted count accounts μ (some a) = cond (indexesBelow count accounts && wrapped (μ (a .held))) (some a) none
 
 unfoldable pub nativeAction : (ℕ → Key) → ℕ → Id → List ℕ → List ℕ → (Key → Option Key) → Option NativeAction
 nativeAction κ count id accounts d μ = counted count accounts μ (asked κ id accounts d)
-
--- how many actions, and so rows, there are
-abbrev pub given : Option NativeAction → ℕ
-given none = 0
-given (some a) = 1

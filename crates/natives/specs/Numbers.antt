@@ -1,4 +1,4 @@
--- An action in numbers: accounts by their index bytes. `valueOf` gives each case its value.
+-- An action in numbers: accounts by their index bytes. `actionValue` gives each case its value.
 -- Assumes nothing.
 use Prim.Native.Nat.{ℕ}
 use mathlib.Core.Bool.{Bool, true, false, cond, _&&_}
@@ -10,16 +10,16 @@ use Rattle.wire.specs.Le.{le}
 use Rattle.ids.specs.declared.Id.{Id}
 use Rattle.ids.specs.Keys.{Key}
 use Rattle.token.specs.Programs.{isToken}
-use Rattle.natives.specs.Natives.{fund, sync, close, NativeAction, isSystem, funds, syncs, closes, allBelow, wrapped}
+use Rattle.natives.specs.Natives.{fund, sync, close, NativeAction, isSystem, funds, syncs, closes, indexesBelow, wrapped}
 use Rattle.natives.specs.declared.Native.{Native}
 use Rattle.natives.specs.declared.Native.the-variants.{Nothing, Fund, Sync, Close}
 
 -- the action that a case stands for; κ gives the key of an index
-abbrev pub valueOf : (ℕ → Key) → Native → Option NativeAction
-valueOf κ Nothing = none
-valueOf κ (Fund h s l) = some record { held = κ h; action = fund (κ s) l }
-valueOf κ (Sync h) = some record { held = κ h; action = sync }
-valueOf κ (Close h d a) = some record { held = κ h; action = close (κ d) (κ a) }
+abbrev pub actionValue : (ℕ → Key) → Native → Option NativeAction
+actionValue κ Nothing = none
+actionValue κ (Fund h s l) = some record { held = κ h; action = fund (κ s) l }
+actionValue κ (Sync h) = some record { held = κ h; action = sync }
+actionValue κ (Close h d a) = some record { held = κ h; action = close (κ d) (κ a) }
 
 -- what program, accounts and data ask for
 unfoldable pub formOf : Id → List ℕ → List ℕ → Native
@@ -52,7 +52,7 @@ actedOf id accounts d = heldBy (formOf id accounts d)
 
 -- what counts of what is asked for, by a key count, the accounts and the acted account's mint
 unfoldable pub settled : ℕ → Native → List ℕ → Option Key → Native
-settled count asked accounts m = cond (allBelow count accounts && wrapped m) asked Nothing
+settled count asked accounts m = cond (indexesBelow count accounts && wrapped m) asked Nothing
 
-abbrev pub actionOf : ℕ → Id → List ℕ → List ℕ → Option Key → Native
-actionOf count id accounts d m = settled count (formOf id accounts d) accounts m
+abbrev pub actionInNumbers : ℕ → Id → List ℕ → List ℕ → Option Key → Native
+actionInNumbers count id accounts d m = settled count (formOf id accounts d) accounts m

@@ -17,12 +17,12 @@ fieldsOf i kind held other authority lamports =
     leBytes 4 i ++ (kind ∷ []) ++ held ++ other ++ authority ++ leBytes 8 lamports
 
 -- kinds: 1 fund, 2 sync, 3 close
-abbrev pub rowBy : ℕ → Key → Action → List ℕ
-rowBy i held (fund source lamports) = fieldsOf i 1 held source zeroKey lamports
-rowBy i held sync = fieldsOf i 2 held zeroKey zeroKey 0
-rowBy i held (close destination authority) = fieldsOf i 3 held destination authority 0
+abbrev pub actionRowBy : ℕ → Key → Action → List ℕ
+actionRowBy i held (fund source lamports) = fieldsOf i 1 held source zeroKey lamports
+actionRowBy i held sync = fieldsOf i 2 held zeroKey zeroKey 0
+actionRowBy i held (close destination authority) = fieldsOf i 3 held destination authority 0
 
 -- the bytes that an instruction adds to the table
-abbrev pub rowsOf : ℕ → Option NativeAction → List ℕ
-rowsOf i none = []
-rowsOf i (some a) = rowBy i (a .held) (a .action)
+abbrev pub actionBytes : ℕ → Option NativeAction → List ℕ
+actionBytes i none = []
+actionBytes i (some a) = actionRowBy i (a .held) (a .action)

@@ -12,9 +12,9 @@ ghost use Rattle.wire.specs.Same.{same};
 ghost use Rattle.ids.specs.Keys.{keyOf, keyCount};
 ghost use Rattle.ids.specs.Mints.{mintOf};
 ghost use Rattle.token.specs.Programs.{isToken};
-ghost use Rattle.natives.specs.Natives.{isSystem, funds as fundsOf, allBelow, wrapped};
-ghost use Rattle.natives.specs.Numbers.{valueOf, formOf, sizedOf, heldBy, isNothing, settled};
-ghost use Rattle.natives.specs.Rows.{fieldsOf, rowsOf};
+ghost use Rattle.natives.specs.Natives.{isSystem, funds as fundsOf, indexesBelow};
+ghost use Rattle.natives.specs.Numbers.{actionValue, formOf, sizedOf, heldBy, isNothing, settled};
+ghost use Rattle.natives.specs.Rows.{fieldsOf, actionBytes};
 use ids::Id;
 
 // The bytes of a row.
@@ -131,7 +131,7 @@ fn nothing(native: Native) -> bool
 
 // Every account index is that of a key, the unused ones too.
 fn all_below(count: usize, accounts: &[u8]) -> bool
-    ensures { λ r. ⌜ r ≡ allBelow count (now (accounts .entry)) ⌝ }
+    ensures { λ r. ⌜ r ≡ indexesBelow count (now (accounts .entry)) ⌝ }
 {
     let mut i = 0;
     while i < accounts.len() {
@@ -143,15 +143,6 @@ fn all_below(count: usize, accounts: &[u8]) -> bool
     true
 }
 
-// Whether a mint is wrapped SOL: row 2 of the ids alone, since the whole table would be built anew wherever it is named.
-fn wrapped_sol(mint: &[u8]) -> bool
-    ensures { λ r. ⌜ r ≡ wrapped (mintOf (now (mint .entry))) ⌝ }
-{
-    let id =
-        *b"\x06\x9b\x88\x57\xfe\xab\x81\x84\xfb\x68\x7f\x63\x46\x18\xc0\x35\xda\xc4\x39\xdc\x1a\xeb\x3b\x55\x98\xa0\xf0\x00\x00\x00\x00\x01";
-    wire::equal(&id, mint)
-}
-
 // What counts of what is asked for, for the acted account's final mint (32 bytes, zero for none).
 pub fn settle(asked: Native, keys: &[u8], accounts: &[u8], mint: &[u8]) -> Native
     ensures { λ r. ⌜ r ≡ settled (keyCount (now (keys .entry))) asked (now (accounts .entry)) (mintOf (now (mint .entry))) ⌝ }
@@ -160,7 +151,7 @@ pub fn settle(asked: Native, keys: &[u8], accounts: &[u8], mint: &[u8]) -> Nativ
     if nothing(asked) {
         return Native::Nothing;
     }
-    if !wrapped_sol(mint) {
+    if !ids::is_wrapped_sol(mint) {
         return Native::Nothing;
     }
     if !all_below(ids::key_count(keys), accounts) {
@@ -181,7 +172,8 @@ fn put_fields(
     lamports: u64,
 )
     requires { ⌜ (length (now held) ≡ 32) × (length (now other) ≡ 32) × (length (now authority) ≡ 32) ⌝ }
-    ensures { λ _. ⌜ now (out .exit) ≡ sets (now (out .entry)) at (fieldsOf invocation kind (now (held .entry)) (now (other .entry)) (now (authority .entry)) lamports) ⌝ }
+    ensures { λ _. ⌜ now (out .exit) ≡ sets (now (out .entry)) at
+        (fieldsOf invocation kind (now (held .entry)) (now (other .entry)) (now (authority .entry)) lamports) ⌝ }
 {
     let mut row = [0u8; WIDTH];
     wire::put_u32(&mut row, 0, invocation);
@@ -195,7 +187,7 @@ fn put_fields(
 
 // Writes the row of an action, if there is one.
 pub fn put_row(out: &mut [u8], at: usize, invocation: u32, keys: &[u8], native: Native)
-    ensures { λ _. ⌜ now (out .exit) ≡ sets (now (out .entry)) at (rowsOf invocation (valueOf (keyOf (now (keys .entry))) native)) ⌝ }
+    ensures { λ _. ⌜ now (out .exit) ≡ sets (now (out .entry)) at (actionBytes invocation (actionValue (keyOf (now (keys .entry))) native)) ⌝ }
 {
     let blank = [0u8; 32];
     let zero = [0u8; 32];

@@ -1,4 +1,4 @@
--- Small packs, and which refusal the definitions give each of them.
+-- Small packs, and which refusal the definitions give each of them, by computation.
 -- Assumes nothing.
 use mathlib.Core.Path.{_≡_, refl}
 use mathlib.Core.Bool.{Bool, true, _&&_}
@@ -17,7 +17,7 @@ use Rattle.pack.specs.Sections.{mark, marked, startOf, ordered, hasSecti
 use Rattle.pack.specs.Items.{rows, rowsFill, keysFill, itemEnd, outersFrom, outersFill, heightAt, heightGood, innersEnd, innersGood, innersFrom, groupEnd, groupGood, groupAt, groupsFrom, groupsFill}
 use Rattle.pack.specs.View.{keysIn, balancesIn, outerIn, groupsIn, poolsIn, viewOf}
 use Rattle.pack.specs.Flatten.{numbered, inside, flattenFrom, flatten}
-use Rattle.pack.specs.Verdict.{verdict, numberOf, placeOf}
+use Rattle.pack.specs.Verdict.{verdict, refusalNumber, placeOf}
 
 -- a pack of five sections
 abbrev pub packed : List ℕ → List ℕ → List ℕ → List ℕ → List ℕ → List ℕ
@@ -49,7 +49,7 @@ abbrev case : List ℕ → ℕ → ℕ → Case
 case p n k = record { bytes = p; number = n; place = k }
 
 unfoldable pub right : Case → Bool
-right c = eqb (numberOf (verdict (c .bytes))) (c .number) && eqb (placeOf (verdict (c .bytes))) (c .place)
+right c = eqb (refusalNumber (verdict (c .bytes))) (c .number) && eqb (placeOf (verdict (c .bytes))) (c .place)
 
 unfoldable pub all-right : List Case → Bool
 all-right [] = true

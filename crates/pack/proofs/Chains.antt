@@ -1,4 +1,5 @@
--- Groups chained by outer index, the last first: what a place holds after one more group.
+-- Groups chained by outer index, the last first: what a place holds after one more group. Each leads to the next that names its outer instruction, so a walk
+-- along the chain meets the groups of that one in their order, and no others.
 -- Assumes nothing.
 use mathlib.Core.Path.{_≡_, refl, sym, ap, _∙_}
 use mathlib.Core.Bool.{Bool, true, false, cond}
@@ -16,38 +17,38 @@ use Rattle.wire.specs.Le.{le}
 use Rattle.wire.proofs.Sets.{sets-next}
 use Rattle.pack.specs.Invocation.{Position}
 use Rattle.pack.specs.Items.{innersFrom, countAt, groupAt}
-use Rattle.pack.specs.Flatten.{numbered, inside}
+use Rattle.pack.specs.Flatten.{inside}
 use Rattle.pack.proofs.Walk.{inners-length}
 use Rattle.pack.proofs.Counting.{numbered-length}
-use Rattle.pack.specs.Layout.{placedAt}
-use Rattle.pack.specs.Loops.{firstFrom, nextOf}
+use Rattle.pack.specs.Layout.{insideAt, membersAt}
+use Rattle.pack.specs.Loops.{firstGroupFrom, nextOf}
 
 -- the first group of outer i from place k on is group k, or the first from place m = k + 1 on
 module _ (s gs : List ℕ) (k m : ℕ) (after : m ≡ k + 1) where
-  pub first-step : (i : ℕ) → k < length gs → cond (eqb (le 4 s (getD gs k 0)) i) (k + 1) (firstFrom s i m (drop m gs)) ≡ firstFrom s i k (drop k gs)
-  unfolding firstFrom
+  pub first-step : (i : ℕ) → k < length gs → cond (eqb (le 4 s (getD gs k 0)) i) (k + 1) (firstGroupFrom s i m (drop m gs)) ≡ firstGroupFrom s i k (drop k gs)
+  unfolding firstGroupFrom
   first-step i h = rw (drop-cons gs k 0 h, after, add-one k)
 
-  pub next-step : firstFrom s (le 4 s (getD gs k 0)) m (drop m gs) ≡ nextOf s gs k
+  pub next-step : firstGroupFrom s (le 4 s (getD gs k 0)) m (drop m gs) ≡ nextOf s gs k
   next-step = rw after
 
 -- where the first group can stand
 module _ (s : List ℕ) (i : ℕ) where
-  pub first-le : (gs : List ℕ) (k : ℕ) → firstFrom s i k gs ≤ k + length gs
-  unfolding firstFrom
+  pub first-le : (gs : List ℕ) (k : ℕ) → firstGroupFrom s i k gs ≤ k + length gs
+  unfolding firstGroupFrom
   first-le [] k = omega arith
   first-le (g ∷ gs) k = go (eqb (le 4 s g) i) (first-le gs (suc k))
     where
-      go : (t : Bool) → firstFrom s i (suc k) gs ≤ suc k + length gs → cond t (suc k) (firstFrom s i (suc k) gs) ≤ k + suc (length gs)
+      go : (t : Bool) → firstGroupFrom s i (suc k) gs ≤ suc k + length gs → cond t (suc k) (firstGroupFrom s i (suc k) gs) ≤ k + suc (length gs)
       go true h = omega arith
       go false h = omega arith
 
-  pub first-later : (gs : List ℕ) (k : ℕ) → (firstFrom s i k gs ≡ 0 → ⊥) → k < firstFrom s i k gs
-  unfolding firstFrom
+  pub first-later : (gs : List ℕ) (k : ℕ) → (firstGroupFrom s i k gs ≡ 0 → ⊥) → k < firstGroupFrom s i k gs
+  unfolding firstGroupFrom
   first-later [] k n = absurd (n refl)
   first-later (g ∷ gs) k n = go (eqb (le 4 s g) i) n (first-later gs (suc k))
     where
-      go : (t : Bool) → (cond t (suc k) (firstFrom s i (suc k) gs) ≡ 0 → ⊥) → ((firstFrom s i (suc k) gs ≡ 0 → ⊥) → suc k < firstFrom s i (suc k) gs) → k < cond t (suc k) (firstFrom s i (suc k) gs)
+      go : (t : Bool) → (cond t (suc k) (firstGroupFrom s i (suc k) gs) ≡ 0 → ⊥) → ((firstGroupFrom s i (suc k) gs ≡ 0 → ⊥) → suc k < firstGroupFrom s i (suc k) gs) → k < cond t (suc k) (firstGroupFrom s i (suc k) gs)
       go true q r = omega arith
       go false q r = let x = r q in omega arith
 
@@ -70,33 +71,26 @@ headed l a v h i = go (eqb a i) refl
 
 -- the groups of outer i that are given by their places in the pack
 module _ (s : List ℕ) (base i : ℕ) where
-  abbrev pub own : List ℕ → List (Position × ℕ)
-  own gs = inside i (map (placedAt base s) gs)
-
-  -- what one group adds to them
-  abbrev pub items : ℕ → List (Position × ℕ)
-  items g = numbered i 0 (innersFrom (λ (x : ℕ). base + x) s (countAt s g) (g + 6))
-
   -- no group of outer i is left
-  pub none-own : (gs : List ℕ) (k : ℕ) → firstFrom s i k gs ≡ 0 → own gs ≡ []
-  unfolding firstFrom inside groupAt
+  pub none-own : (gs : List ℕ) (k : ℕ) → firstGroupFrom s i k gs ≡ 0 → insideAt s base i gs ≡ []
+  unfolding firstGroupFrom inside groupAt
   none-own [] k e = refl
   none-own (g ∷ gs) k e = go (eqb (le 4 s g) i) e (none-own gs (suc k))
     where
-      go : (t : Bool) → cond t (suc k) (firstFrom s i (suc k) gs) ≡ 0 → (firstFrom s i (suc k) gs ≡ 0 → own gs ≡ []) → cond t (items g ++ own gs) (own gs) ≡ []
+      go : (t : Bool) → cond t (suc k) (firstGroupFrom s i (suc k) gs) ≡ 0 → (firstGroupFrom s i (suc k) gs ≡ 0 → insideAt s base i gs ≡ []) → cond t (membersAt s base i g ++ insideAt s base i gs) (insideAt s base i gs) ≡ []
       go true q r = absurd (omega arith)
       go false q r = r q
 
   -- the next one stands d places further
-  next-own : (gs : List ℕ) (k m : ℕ) → firstFrom s i k gs ≡ suc m
-      → (d : ℕ) × (m ≡ k + d) × (d < length gs) × (le 4 s (getD gs d 0) ≡ i) × (own gs ≡ items (getD gs d 0) ++ own (drop (suc d) gs))
-  unfolding firstFrom inside groupAt
+  next-own : (gs : List ℕ) (k m : ℕ) → firstGroupFrom s i k gs ≡ suc m
+      → (d : ℕ) × (m ≡ k + d) × (d < length gs) × (le 4 s (getD gs d 0) ≡ i) × (insideAt s base i gs ≡ membersAt s base i (getD gs d 0) ++ insideAt s base i (drop (suc d) gs))
+  unfolding firstGroupFrom inside groupAt
   next-own [] k m e = absurd (omega arith)
   next-own (g ∷ gs) k m e = go (eqb (le 4 s g) i) refl e (next-own gs (suc k) m)
     where
-      go : (t : Bool) → eqb (le 4 s g) i ≡ t → cond t (suc k) (firstFrom s i (suc k) gs) ≡ suc m
-          → (firstFrom s i (suc k) gs ≡ suc m → (d : ℕ) × (m ≡ suc k + d) × (d < length gs) × (le 4 s (getD gs d 0) ≡ i) × (own gs ≡ items (getD gs d 0) ++ own (drop (suc d) gs)))
-          → (d : ℕ) × (m ≡ k + d) × (d < suc (length gs)) × (le 4 s (getD (g ∷ gs) d 0) ≡ i) × (cond t (items g ++ own gs) (own gs) ≡ items (getD (g ∷ gs) d 0) ++ own (drop (suc d) (g ∷ gs)))
+      go : (t : Bool) → eqb (le 4 s g) i ≡ t → cond t (suc k) (firstGroupFrom s i (suc k) gs) ≡ suc m
+          → (firstGroupFrom s i (suc k) gs ≡ suc m → (d : ℕ) × (m ≡ suc k + d) × (d < length gs) × (le 4 s (getD gs d 0) ≡ i) × (insideAt s base i gs ≡ membersAt s base i (getD gs d 0) ++ insideAt s base i (drop (suc d) gs)))
+          → (d : ℕ) × (m ≡ k + d) × (d < suc (length gs)) × (le 4 s (getD (g ∷ gs) d 0) ≡ i) × (cond t (membersAt s base i g ++ insideAt s base i gs) (insideAt s base i gs) ≡ membersAt s base i (getD (g ∷ gs) d 0) ++ insideAt s base i (drop (suc d) (g ∷ gs)))
       go true q x r = (0, omega arith, omega arith, eqb-true (le 4 s g) i q, refl)
       go false q x r = let y = r x in (suc (y .0), omega (arith, y .1), omega (arith, y .2), y .3, y .4)
 
@@ -104,9 +98,9 @@ module _ (s : List ℕ) (base i : ℕ) where
 pub record Found (s : List ℕ) (base i : ℕ) (gs : List ℕ) (t m : ℕ) : Type 0 where
   pub in-list : m < length gs
   pub names : le 4 s (getD gs m 0) ≡ i
-  pub splits : own s base i (drop t gs) ≡ items s base i (getD gs m 0) ++ own s base i (drop (m + 1) gs)
+  pub splits : insideAt s base i (drop t gs) ≡ membersAt s base i (getD gs m 0) ++ insideAt s base i (drop (m + 1) gs)
 
-pub found-at : (s : List ℕ) (base i : ℕ) (gs : List ℕ) (t m : ℕ) → firstFrom s i t (drop t gs) ≡ suc m → Found s base i gs t m
+pub found-at : (s : List ℕ) (base i : ℕ) (gs : List ℕ) (t m : ℕ) → firstGroupFrom s i t (drop t gs) ≡ suc m → Found s base i gs t m
 found-at s base i gs t m e =
     let y = next-own s base i (drop t gs) t m e in
     let p : getD (drop t gs) (y .0) 0 ≡ getD gs m 0 = getD-drop t gs (y .0) 0 ∙ ap (λ (k : ℕ). getD gs k 0) (sym (y .1)) in
@@ -132,6 +126,6 @@ wrote-more f l₀ l k r xs ys e n =
     rw (e, map-append f xs ys) (sets-next l₀ k (map f xs) (map f ys) r (rw (length-map xs f) (sym n)))
 
 -- a group adds as many invocations as it counts
-pub items-length : (s : List ℕ) (base i g : ℕ) → length (items s base i g) ≡ countAt s g
-items-length s base i g =
+pub members-length : (s : List ℕ) (base i g : ℕ) → length (membersAt s base i g) ≡ countAt s g
+members-length s base i g =
     numbered-length i 0 (innersFrom (λ (x : ℕ). base + x) s (countAt s g) (g + 6)) ∙ inners-length (λ (x : ℕ). base + x) s (countAt s g) (g + 6)

@@ -19,7 +19,7 @@ use Rattle.pack.specs.Sections.{startOf, sectionOf}
 use Rattle.pack.specs.Items.{itemEnd, outersAt, outersWhole, heightGood, innersGood, innersFrom, countAt, groupGood, groupAt, groupsAt, groupsWhole}
 use Rattle.pack.specs.View.{outerIn, groupsIn, viewOf}
 use Rattle.pack.specs.Flatten.{numbered, inside, outermost, flattenFrom, invocation, flatten}
-use Rattle.pack.specs.Verdict.{numberOf, verdict}
+use Rattle.pack.specs.Verdict.{refusalNumber, verdict}
 use Rattle.pack.specs.Layout.{layout, spreadOf, placedAt, raised, atOf, outerOf, innerOf, heightOf, Flattened}
 use Rattle.pack.proofs.Parts.{at-map}
 use Rattle.pack.proofs.Slices.{slice, instruction-in}
@@ -97,7 +97,7 @@ abbrev pub standing : List ℕ → Position × ℕ → Invocation
 standing p x = record { position = x .0; instruction = instructionAt p (x .1) }
 
 -- the layout of a pack is its invocations
-pub layout-is : (p : List ℕ) → numberOf (verdict p) ≡ 0 → flatten (viewOf p) ≡ map (standing p) (layout p)
+pub layout-is : (p : List ℕ) → refusalNumber (verdict p) ≡ 0 → flatten (viewOf p) ≡ map (standing p) (layout p)
 unfolding flatten viewOf
 layout-is p e =
     let w = passed p e in
@@ -114,7 +114,7 @@ lowered-raised none = refl
 lowered-raised (some k) = refl
 
 -- what `flatten` leaves of a pack that no refusal meets
-module _ (p : List ℕ) (r : ℕ) (at outer inner height : List ℕ) (e : numberOf (verdict p) ≡ 0) (w : Flattened p r at outer inner height) where
+module _ (p : List ℕ) (r : ℕ) (at outer inner height : List ℕ) (e : refusalNumber (verdict p) ≡ 0) (w : Flattened p r at outer inner height) where
   few : length (layout p) ≤ 1024
   few =
       let s = sectionOf p 2 in

@@ -1,7 +1,7 @@
 -- The arrays on the way to the invocations of a pack that no refusal meets: what each holds, and that it has room.
 -- s and g are the pack's sections 2 and 3, o is the number of its outer instructions.
 -- Assumes nothing.
-use mathlib.Core.Path.{_≡_, ap}
+use mathlib.Core.Path.{_≡_, refl, ap}
 use mathlib.Core.Bool.{true}
 use mathlib.Core.List.{List, [], map}
 use Prim.Native.Nat.{ℕ, suc, _+_, _≤_, _<_}
@@ -12,19 +12,19 @@ use lib.Seq.{sets}
 use Rattle.wire.specs.Le.{le}
 use Rattle.pack.specs.Invocation.{instructionAt}
 use Rattle.pack.specs.Sections.{startOf, sectionOf}
-use Rattle.pack.specs.Items.{outersAt, groupGood, groupAt, groupsAt, groupsWhole}
+use Rattle.pack.specs.Items.{outersAt, outersWhole, groupGood, groupAt, groupsAt, groupsWhole}
 use Rattle.pack.specs.View.{outerIn, groupsIn}
 use Rattle.pack.specs.Flatten.{keptIn}
-use Rattle.pack.specs.Verdict.{numberOf, verdict}
+use Rattle.pack.specs.Verdict.{refusalNumber, verdict}
 use Rattle.pack.specs.Layout.{layout, spreadOf, placedAt}
-use Rattle.pack.specs.Loops.{keptAt, firstFrom, nextOf, Chained}
+use Rattle.pack.specs.Loops.{keptAt, Linked, Chained, AllChained}
 use Rattle.pack.proofs.Counting.{all-length}
 use Rattle.pack.proofs.Sizes.{invocations-length}
 use Rattle.pack.proofs.Places.{group-inside}
 use Rattle.pack.proofs.Good.{passed, size-of, end-le, section-ends}
 use Rattle.pack.proofs.Kept.{Each, each-at, groups-each, kept-each, kept-few, kept-all, kept-given, laid, laid-at}
 
-module _ (p s g : List ℕ) (o : ℕ) (e : numberOf (verdict p) ≡ 0) (is-s : s ≡ sectionOf p 2) (is-g : g ≡ sectionOf p 3) (is-o : o ≡ length (outersAt s)) where
+module _ (p s g : List ℕ) (o : ℕ) (e : refusalNumber (verdict p) ≡ 0) (is-s : s ≡ sectionOf p 2) (is-g : g ≡ sectionOf p 3) (is-o : o ≡ length (outersAt s)) where
   -- outer instructions, and the instructions of the groups that are kept
   total : o + keptIn o (map (groupAt (instructionAt g) g) (groupsAt g)) ≤ 1024
   unfolding outerIn groupsIn
@@ -70,15 +70,15 @@ module _ (p s g : List ℕ) (o : ℕ) (e : numberOf (verdict p) ≡ 0) (is-s : s
         rw (kept-at k h) (omega (arith, i .0, groups-room .2), omega (arith, kept-is k h .1, total))
 
     -- chains over them lead to all groups of an outer instruction
-    pub chained : (next first : List ℕ) → ((k : ℕ) → k < n → getD next k 0 ≡ nextOf g (take n place) k)
-        → ((i : ℕ) → i < 1024 → getD first i 0 ≡ firstFrom g i 0 (take n place)) → (i : ℕ) → i < length (outersAt s) → Chained g i place next first
-    chained next first links heads i h =
+    pub chained : (next first : List ℕ) → Linked g (take n place) next first → (i : ℕ) → i < length (outersAt s) → Chained g i place next (getD first i 0)
+    chained next first linked i h =
+        let t = ap length kept-laid in
         record {
           gs = keptAt g o;
           few = groups-room .1;
           places = λ k l. kept-at k (omega arith);
-          links = λ k l. rw kept-laid at (links k (omega arith));
-          head = rw kept-laid at (heads i (omega (arith, total)));
+          links = λ k l. rw kept-laid at (linked .links k (omega arith));
+          head = rw kept-laid at (linked .heads i (omega (arith, total)));
           good = λ k l. group-inside g (getD (keptAt g o) k 0) (kept-is k (omega arith) .0) .1;
           complete = λ base. kept-all (λ (at : ℕ). base + at) g o i (omega arith) (groupsAt g);
         }
@@ -95,9 +95,30 @@ module _ (p s g : List ℕ) (o : ℕ) (e : numberOf (verdict p) ≡ 0) (is-s : s
   -- and are laid out so
   pub laid-out : layout p ≡ spreadOf (startOf p 2) (startOf p 3) g (outersAt s)
   unfolding layout
-  laid-out = rw (eq-eqb (numberOf (verdict p)) 0 e, is-s, is-g)
+  laid-out = rw (eq-eqb (refusalNumber (verdict p)) 0 e, is-s, is-g)
+
+-- what the walk over the outer instructions needs to know, of sections and starts that were read from the pack
+pub record Ready (p outs s : List ℕ) (from base : ℕ) (place next first : List ℕ) : Type 0 where
+  pub whole : outersWhole outs ≡ true
+  pub ends : (from + length outs ≤ 61440) × (base + length s ≤ 61440)
+  pub few : length (spreadOf from base s (outersAt outs)) ≤ 1024
+  pub laid : layout p ≡ spreadOf from base s (outersAt outs)
+  pub chains : (i : ℕ) → i < length (outersAt outs) → Chained s i place next (getD first i 0)
+
+pub ready : (p outs s : List ℕ) (from base : ℕ) (place next first : List ℕ) → refusalNumber (verdict p) ≡ 0 → AllChained p place next first
+    → outs ≡ sectionOf p 2 → s ≡ sectionOf p 3 → from ≡ startOf p 2 → base ≡ startOf p 3 → Ready p outs s from base place next first
+ready p outs s from base place next first e ch a b c d =
+    let o = length (outersAt (sectionOf p 2)) in
+    rw (a, b, c, d)
+    (record {
+      whole = passed p e .outers;
+      ends = ends p (sectionOf p 2) (sectionOf p 3) o e refl refl refl;
+      few = spread-room p (sectionOf p 2) (sectionOf p 3) o e refl refl refl;
+      laid = laid-out p (sectionOf p 2) (sectionOf p 3) o e refl refl refl;
+      chains = ch;
+    })
 
 -- a pack that is refused has none
-pub laid-none : (p : List ℕ) → (numberOf (verdict p) ≡ 0 → ⊥) → layout p ≡ []
+pub laid-none : (p : List ℕ) → (refusalNumber (verdict p) ≡ 0 → ⊥) → layout p ≡ []
 unfolding layout
-laid-none p h = rw (ne-eqb (numberOf (verdict p)) 0 h)
+laid-none p h = rw (ne-eqb (refusalNumber (verdict p)) 0 h)

@@ -1,4 +1,4 @@
--- What is known of a pack that no refusal meets.
+-- What is known of a pack that no refusal meets: every refusal has a number above 0, so each check was passed.
 -- Assumes nothing.
 use mathlib.Core.Path.{_≡_, refl}
 use mathlib.Core.Bool.{Bool, true, false, cond, not, _&&_}
@@ -18,7 +18,7 @@ use Rattle.pack.specs.Sections.{mark, marked, ordered, startOf, hasSecti
 use Rattle.pack.specs.Items.{keysFill, rowsFill, outersWhole, groupsWhole}
 use Rattle.pack.specs.View.{viewOf}
 use Rattle.pack.specs.Flatten.{flatten}
-use Rattle.pack.specs.Verdict.{numberOf, verdict}
+use Rattle.pack.specs.Verdict.{refusalNumber, verdict}
 
 -- each check was passed
 pub record Passed (p : List ℕ) : Type 0 where
@@ -32,25 +32,16 @@ pub record Passed (p : List ℕ) : Type 0 where
   pub few-keys : length (viewOf p .keys) ≤ 256
   pub few : length (flatten (viewOf p)) ≤ 1024
 
--- the verdict that has number 0
-pub number-good : (v : Verdict) → numberOf v ≡ 0 → v ≡ Good
-number-good Good e = refl
-number-good Mark e = absurd (omega arith)
-number-good Starts e = absurd (omega arith)
-number-good (Section k) e = absurd (omega arith)
-number-good Keys e = absurd (omega arith)
-number-good Invocations e = absurd (omega arith)
-
 -- a check whose refusal has a number was passed, and the next one decides
-past : (b : Bool) (x y : Verdict) → 0 < numberOf x → numberOf (cond (not b) x y) ≡ 0 → (b ≡ true) × (numberOf y ≡ 0)
+past : (b : Bool) (x y : Verdict) → 0 < refusalNumber x → refusalNumber (cond (not b) x y) ≡ 0 → (b ≡ true) × (refusalNumber y ≡ 0)
 past true x y h e = (refl, e)
 past false x y h e = absurd (omega arith)
 
-below : (b : Bool) (x y : Verdict) → 0 < numberOf x → numberOf (cond b x y) ≡ 0 → (b ≡ false) × (numberOf y ≡ 0)
+below : (b : Bool) (x y : Verdict) → 0 < refusalNumber x → refusalNumber (cond b x y) ≡ 0 → (b ≡ false) × (refusalNumber y ≡ 0)
 below true x y h e = absurd (omega arith)
 below false x y h e = (refl, e)
 
-pub passed : (p : List ℕ) → numberOf (verdict p) ≡ 0 → Passed p
+pub passed : (p : List ℕ) → refusalNumber (verdict p) ≡ 0 → Passed p
 unfolding verdict
 passed p e₀ =
     let a₉ = cond (ltb 1024 (length (flatten (viewOf p)))) Invocations Good in

@@ -1,4 +1,4 @@
--- What `flatten` promises leaves one count and one content of its four arrays.
+-- What `flatten` promises leaves one count and one content of its four arrays, since each part of the promise is an equation.
 -- Assumes nothing.
 use Prim.Native.Nat.{ℕ}
 use mathlib.Core.Path.{_≡_, sym, _∙_}

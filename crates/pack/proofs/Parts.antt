@@ -1,4 +1,4 @@
--- Parts of a list by offset and length, and members of a list.
+-- Parts of a list by offset and length, and members of a list, by going through the list.
 -- Assumes nothing.
 use mathlib.Core.Path.{_≡_, refl, sym, _∙_}
 use mathlib.Core.List.{List, [], _∷_, map}

@@ -1,4 +1,4 @@
--- A View's rows, read from the bytes of their sections: what the layers above look up by index.
+-- A View's rows, read from the bytes of their sections: what the layers above look up by index. Row i stands behind i rows of one width.
 -- Assumes nothing.
 use mathlib.Core.Path.{_≡_, refl, sym, ap, _∙_}
 use mathlib.Core.Bool.{Bool, true, false, cond, _&&_}
@@ -15,7 +15,7 @@ use Rattle.ids.specs.Keys.{Key, zeroKey, keyOf}
 use Rattle.ids.specs.Which.{which, programAt}
 use Rattle.ids.specs.declared.Id.the-variants.{Unresolved}
 use Rattle.pack.specs.Items.{rows}
-use Rattle.pack.specs.View.{keysIn, balancesIn, poolsIn, keyIn, programIn}
+use Rattle.pack.specs.View.{keysIn, balancesIn, keyIn, programIn}
 use Rattle.pack.proofs.Parts.{drop-part, at-map}
 use Rattle.pack.proofs.Sizes.{rows-length, key-rows}
 use Rattle.pack.proofs.Slices.{le-in}
@@ -47,18 +47,9 @@ balance-row s i d h =
     at-map (λ (r : List ℕ). (le 4 r 0, drop 4 r)) (rows 36 n s) i [] d (rw rows-length h)
     ∙ rw (row-at 36 n s i [] h, field 4 32 36 i s refl, le-in s (i * 36) 36 4 0 (simp (length-take, length-drop) (omega arith)), add-zero)
 
--- section 4: pool i
-pub pool-row : (s : List ℕ) (i : ℕ) (d : Key) → i < length s / 32 → getD (poolsIn s) i d ≡ take 32 (drop (i * 32) s)
-unfolding poolsIn
-pool-row s i d h = row-at 32 (length s / 32) s i d h
-
 pub balances-length : (s : List ℕ) → length (balancesIn s) ≡ length s / 36
 unfolding balancesIn
 balances-length s = length-map (rows 36 (length s / 36) s) (λ (r : List ℕ). (le 4 r 0, drop 4 r)) ∙ rows-length 36 (length s / 36) s
-
-pub pools-length : (s : List ℕ) → length (poolsIn s) ≡ length s / 32
-unfolding poolsIn
-pools-length s = rows-length 32 (length s / 32) s
 
 -- a lookup in the key section is a lookup among the keys
 module _ {A : Type 0} (f : ℕ × Key → A) (s : List ℕ) (i : ℕ) (z : A) where

@@ -1,4 +1,4 @@
--- How many keys and invocations a pack has, by its sections.
+-- How many keys and invocations a pack has, by its sections: a key for each row, an instruction for each item.
 -- Assumes nothing.
 use mathlib.Core.Path.{_≡_, refl, ap, _∙_}
 use mathlib.Core.Bool.{Bool, true, false, cond}

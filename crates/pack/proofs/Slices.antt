@@ -1,4 +1,4 @@
--- What stands in a part of a pack stands in the pack, further on.
+-- What stands in a part of a pack stands in the pack, as much further on as the part starts.
 -- Assumes nothing.
 use mathlib.Core.Path.{_≡_, refl, sym, ap, _∙_}
 use mathlib.Core.List.{List}

@@ -1,4 +1,4 @@
--- One outer instruction more: it, its groups, and the rest.
+-- One outer instruction more: it, its groups, and the rest stand one behind the other, so what is written of the rest from here is what was left of all.
 -- Assumes nothing.
 use mathlib.Core.Path.{_≡_, sym, _∙_}
 use mathlib.Core.List.{List, [], _∷_, _++_, map}

@@ -1,4 +1,4 @@
--- One step of the walks over a section, by what the code has tested.
+-- One step of the walks over a section, by what the code has tested. An item has at least its header, so each step gets on.
 -- Assumes nothing.
 use mathlib.Core.Path.{_≡_, refl, ap}
 use mathlib.Core.Bool.{Bool, true, false, cond, _&&_}

@@ -12,13 +12,21 @@ use Rattle.wire.specs.Zeros.{zeros}
 use Rattle.pack.specs.Invocation.{Position}
 use Rattle.pack.specs.Group.{Group}
 use Rattle.pack.specs.Sections.{startOf, sectionOf}
-use Rattle.pack.specs.Items.{outersAt, groupAt, groupsAt}
-use Rattle.pack.specs.Flatten.{flattenFrom}
-use Rattle.pack.specs.Verdict.{verdict, numberOf}
+use Rattle.pack.specs.Items.{outersAt, innersFrom, countAt, groupAt, groupsAt}
+use Rattle.pack.specs.Flatten.{numbered, inside, flattenFrom}
+use Rattle.pack.specs.Verdict.{verdict, refusalNumber}
 
 -- a group of section s, its instructions given by their offsets in the pack, where the section starts at `base`
 abbrev pub placedAt : ℕ → List ℕ → ℕ → Group ℕ
 placedAt base s = groupAt (λ (at : ℕ). base + at) s
+
+-- what the groups at offsets gs of section s give for outer i
+abbrev pub insideAt : List ℕ → ℕ → ℕ → List ℕ → List (Position × ℕ)
+insideAt s base i gs = inside i (map (placedAt base s) gs)
+
+-- what one group of outer i adds to it
+abbrev pub membersAt : List ℕ → ℕ → ℕ → ℕ → List (Position × ℕ)
+membersAt s base i g = numbered i 0 (innersFrom (λ (at : ℕ). base + at) s (countAt s g) (g + 6))
 
 -- outer instructions at offsets `outs` of a section that starts at `from`, with the groups of section s
 abbrev pub spreadOf : ℕ → ℕ → List ℕ → List ℕ → List (Position × ℕ)
@@ -26,7 +34,7 @@ spreadOf from base s outs = flattenFrom 0 (map (λ (at : ℕ). from + at) outs) 
 
 -- the invocations in execution order, each given by its position and its instruction's offset; none of a pack that is refused
 unfoldable pub layout : List ℕ → List (Position × ℕ)
-layout p = cond (eqb (numberOf (verdict p)) 0) (spreadOf (startOf p 2) (startOf p 3) (sectionOf p 3) (outersAt (sectionOf p 2))) []
+layout p = cond (eqb (refusalNumber (verdict p)) 0) (spreadOf (startOf p 2) (startOf p 3) (sectionOf p 3) (outersAt (sectionOf p 2))) []
 
 -- a number that may be absent, as the arrays hold it: one higher, 0 standing for none
 unfoldable pub raised : Option ℕ → ℕ
@@ -46,14 +54,29 @@ innerOf x = raised (x .0 .inner)
 abbrev pub heightOf : Position × ℕ → ℕ
 heightOf x = raised (x .0 .height)
 
--- four arrays after the invocations xs were written from place n on, and the place r that is then reached
-pub record Wrote (xs : List (Position × ℕ)) (n r : ℕ) (at₀ outer₀ inner₀ height₀ at₁ outer₁ inner₁ height₁ : List ℕ) : Type 0 where
+-- the four arrays
+pub record Columns : Type 0 where
+  -- where each instruction stands in the pack
+  pub at : List ℕ
+  -- the index of its outer instruction
+  pub outer : List ℕ
+  -- its inner index, and its height, as `raised` has them
+  pub inner : List ℕ
+  pub height : List ℕ
+
+abbrev pub columns : List ℕ → List ℕ → List ℕ → List ℕ → Columns
+columns at outer inner height = record { at = at; outer = outer; inner = inner; height = height }
+
+-- the arrays after the invocations xs were written from place n on
+pub record Wrote (xs : List (Position × ℕ)) (n r : ℕ) (before after : Columns) : Type 0 where
+  -- the place that is then reached
   pub count : r ≡ n + length xs
-  pub ats : at₁ ≡ sets at₀ n (map atOf xs)
-  pub outers : outer₁ ≡ sets outer₀ n (map outerOf xs)
-  pub inners : inner₁ ≡ sets inner₀ n (map innerOf xs)
-  pub heights : height₁ ≡ sets height₀ n (map heightOf xs)
+  -- what each array holds
+  pub ats : after .at ≡ sets (before .at) n (map atOf xs)
+  pub outers : after .outer ≡ sets (before .outer) n (map outerOf xs)
+  pub inners : after .inner ≡ sets (before .inner) n (map innerOf xs)
+  pub heights : after .height ≡ sets (before .height) n (map heightOf xs)
 
 -- what `flatten` leaves: the invocations from the first place on, and zeros behind them
 abbrev pub Flattened : List ℕ → ℕ → List ℕ → List ℕ → List ℕ → List ℕ → Type 0
-Flattened p r at outer inner height = Wrote (layout p) 0 r (zeros 1024) (zeros 1024) (zeros 1024) (zeros 1024) at outer inner height
+Flattened p r at outer inner height = Wrote (layout p) 0 r (columns (zeros 1024) (zeros 1024) (zeros 1024) (zeros 1024)) (columns at outer inner height)

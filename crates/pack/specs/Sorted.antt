@@ -16,29 +16,29 @@ module _ {A : Type 0} where
   inOrder (g ∷ h ∷ gs) = leb (g .index) (h .index) && inOrder (h ∷ gs)
 
   -- the Rust's `sort_unstable_by_key` by index and original place: a group goes in front of those with its index that came after it
-  unfoldable pub insert : Group A → List (Group A) → List (Group A)
-  insert g [] = g ∷ []
-  insert g (h ∷ gs) = let rest = insert g gs in cond (leb (g .index) (h .index)) (g ∷ h ∷ gs) (h ∷ rest)
+  unfoldable pub insertGroup : Group A → List (Group A) → List (Group A)
+  insertGroup g [] = g ∷ []
+  insertGroup g (h ∷ gs) = let rest = insertGroup g gs in cond (leb (g .index) (h .index)) (g ∷ h ∷ gs) (h ∷ rest)
 
   unfoldable pub sorted : List (Group A) → List (Group A)
   sorted [] = []
-  sorted (g ∷ gs) = insert g (sorted gs)
+  sorted (g ∷ gs) = insertGroup g (sorted gs)
 
   -- the Rust's `group_at`: sorted only where the input is not in order
   unfoldable pub groupOrder : List (Group A) → List (Group A)
   groupOrder gs = cond (inOrder gs) gs (sorted gs)
 
   -- the inner loop at outer i: groups up to that index are passed, and those of that index taken
-  unfoldable pub taken : ℕ → List (Group A) → List (Position × A)
-  taken i [] = []
-  taken i (g ∷ gs) = let rest = taken i gs in cond (leb (g .index) i) (cond (eqb (g .index) i) (numbered i 0 (g .items) ++ rest) rest) []
+  unfoldable pub takenAt : ℕ → List (Group A) → List (Position × A)
+  takenAt i [] = []
+  takenAt i (g ∷ gs) = let rest = takenAt i gs in cond (leb (g .index) i) (cond (eqb (g .index) i) (numbered i 0 (g .items) ++ rest) rest) []
 
   -- where it leaves the cursor
-  unfoldable pub passed : ℕ → List (Group A) → List (Group A)
-  passed i [] = []
-  passed i (g ∷ gs) = let rest = passed i gs in cond (leb (g .index) i) rest (g ∷ gs)
+  unfoldable pub leftAfter : ℕ → List (Group A) → List (Group A)
+  leftAfter i [] = []
+  leftAfter i (g ∷ gs) = let rest = leftAfter i gs in cond (leb (g .index) i) rest (g ∷ gs)
 
   -- the outer loop, from outer i on
   unfoldable pub walkFrom : ℕ → List A → List (Group A) → List (Position × A)
   walkFrom i [] gs = []
-  walkFrom i (x ∷ xs) gs = (outermost i, x) ∷ (taken i gs ++ walkFrom (suc i) xs (passed i gs))
+  walkFrom i (x ∷ xs) gs = (outermost i, x) ∷ (takenAt i gs ++ walkFrom (suc i) xs (leftAfter i gs))

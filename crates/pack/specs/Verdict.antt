@@ -13,13 +13,13 @@ use Rattle.pack.specs.View.{viewOf}
 use Rattle.pack.specs.Flatten.{flatten}
 
 -- the number of a refusal in docs/FORMAT.md, and 0 for none
-abbrev pub numberOf : Verdict → ℕ
-numberOf Good = 0
-numberOf Mark = 2
-numberOf Starts = 3
-numberOf (Section k) = 4
-numberOf Keys = 5
-numberOf Invocations = 6
+abbrev pub refusalNumber : Verdict → ℕ
+refusalNumber Good = 0
+refusalNumber Mark = 2
+refusalNumber Starts = 3
+refusalNumber (Section k) = 4
+refusalNumber Keys = 5
+refusalNumber Invocations = 6
 
 -- and its place
 abbrev pub placeOf : Verdict → ℕ

@@ -1,94 +1,12 @@
 // Flattening: the invocations of a pack in execution order, one array for each field.
-//
-// Only groups that are kept and not empty are remembered, and those of one outer instruction are chained, so that the work grows with the pack and not with
-// the number of outer instructions times the number of groups. The arrays that remember them hold 16 bits each, since every call has to zero them.
 ghost use mathlib.Core.Path.{_≡_};
-ghost use mathlib.Core.Bool.{true};
-ghost use mathlib.Core.List.{map};
-ghost use Prim.Native.Nat.{ℕ, _+_, _≤_, _<_};
-ghost use lib.ListN.{length, getD, take};
-ghost use lib.Seq.{sets};
-ghost use Rattle.wire.specs.Le.{le};
-ghost use Rattle.wire.specs.Zeros.{zeros};
-ghost use Rattle.pack.specs.Items.{outersAt, outersWhole, heightAt, innersEnd, innersFrom, countAt, groupEnd, groupsAt, groupsWhole};
-ghost use Rattle.pack.specs.Flatten.{numbered, inside};
-ghost use Rattle.pack.specs.Verdict.{verdict, numberOf};
-ghost use Rattle.pack.specs.Layout.{placedAt, raised, Wrote, spreadOf, layout, Flattened};
-ghost use Rattle.pack.specs.Loops.{keeps as keepsOf, keptAt, firstFrom, nextOf, Chained};
+ghost use Prim.Native.Nat.{_+_, _≤_};
+ghost use lib.ListN.{length};
+ghost use Rattle.pack.specs.Items.{heightAt, countAt, groupEnd, groupsAt};
+ghost use Rattle.pack.specs.Verdict.{verdict, refusalNumber};
+ghost use Rattle.pack.specs.Layout.{membersAt, insideAt, raised, columns, Wrote, layout, Flattened};
+ghost use Rattle.pack.specs.Loops.{Chained, AllChained};
 use super::Verdict;
-
-// How many instructions section 2 has.
-fn outer_count(s: &[u8]) -> usize
-    requires { ⌜ outersWhole (now s) ≡ true ⌝ }
-    ensures { λ r. ⌜ r ≡ length (outersAt (now (s .entry))) ⌝ }
-{
-    let mut at = 0;
-    let mut n = 0;
-    while at < s.len() {
-        at = super::item_end(s, at);
-        n += 1;
-    }
-    n
-}
-
-// Where n instructions of a group end, from `at` on.
-fn inners_end(s: &[u8], n: usize, at: usize) -> usize
-    requires { ⌜ innersEnd (now s) n at ≤ length (now s) ⌝ }
-    ensures { λ r. ⌜ r ≡ innersEnd (now (s .entry)) n at ⌝ }
-{
-    let mut to = at;
-    let mut j = 0;
-    while j < n {
-        to = super::item_end(s, to + 5);
-        j += 1;
-    }
-    to
-}
-
-// Whether a group is remembered.
-fn keeps(s: &[u8], o: usize, g: usize) -> bool
-    requires { ⌜ g ≤ length (now s) ⌝ }
-    ensures { λ r. ⌜ r ≡ keepsOf (now (s .entry)) o g ⌝ }
-{
-    if o <= wire::u32_at(s, g) as usize {
-        return false;
-    }
-    0 < wire::u16_at(s, g + 4)
-}
-
-// Where the groups that are remembered start.
-fn kept_places(s: &[u8], o: usize, place: &mut [u16; 1024]) -> usize
-    requires { ⌜ (groupsWhole (now s) ≡ true) × (length (keptAt (now s) o) ≤ 1024) × (length (now s) ≤ 61440) ⌝ }
-    ensures { λ r. ⌜ (r ≡ length (keptAt (now (s .entry)) o)) × (now (place .exit) ≡ sets (now (place .entry)) 0 (keptAt (now (s .entry)) o)) ⌝ }
-{
-    let mut at = 0;
-    let mut n = 0;
-    while at < s.len() {
-        let g = at;
-        at = inners_end(s, wire::u16_at(s, g + 4) as usize, g + 6);
-        if !keeps(s, o, g) {
-            continue;
-        }
-        place[n] = g as u16;
-        n += 1;
-    }
-    n
-}
-
-// Chains the groups of each outer instruction, the last group first.
-fn link(s: &[u8], place: &[u16; 1024], n: usize, next: &mut [u16; 1024], first: &mut [u16; 1024])
-    requires { ⌜ (n ≤ 1024) × (length (now place) ≡ 1024) × (length (now next) ≡ 1024) × (now first ≡ zeros 1024) ⌝ }
-    requires { ⌜ ((k : ℕ) → k < n → (getD (now place) k 0 ≤ 61440) × (le 4 (now s) (getD (now place) k 0) < 1024)) ⌝ }
-    ensures { λ _. ⌜ ((k : ℕ) → k < n → getD (now (next .exit)) k 0 ≡ nextOf (now (s .entry)) (take n (now (place .entry))) k) × ((i : ℕ) → i < 1024 → getD (now (first .exit)) i 0 ≡ firstFrom (now (s .entry)) i 0 (take n (now (place .entry)))) ⌝ }
-{
-    let mut k = n;
-    while 0 < k {
-        k -= 1;
-        let i = wire::u32_at(s, place[k] as usize) as usize;
-        next[k] = first[i];
-        first[i] = k as u16 + 1;
-    }
-}
 
 // A height as the arrays hold it.
 fn height_code(s: &[u8], at: usize) -> u64
@@ -101,21 +19,33 @@ fn height_code(s: &[u8], at: usize) -> u64
     super::four(s, at + 1) as u64 + 1
 }
 
-// The instructions of the group at g, which names outer i, from place n on.
+// How far the groups of an outer instruction are written: where their section starts in the pack, the outer instruction, the group that comes next as the
+// chain has it (one higher, 0 after the last), and the place of the arrays that it goes to.
+struct Way {
+    base: usize,
+    outer: u32,
+    group: usize,
+    place: usize,
+}
+
+// The instructions of the group that comes next, which stands at g.
 fn members(
     s: &[u8],
-    base: usize,
     g: usize,
-    i: u32,
-    n: usize,
+    way: Way,
     at: &mut [u32; 1024],
     outer: &mut [u32; 1024],
     inner: &mut [u32; 1024],
     height: &mut [u64; 1024],
 ) -> usize
-    requires { ⌜ (n + countAt (now s) g ≤ 1024) × (groupEnd (now s) g ≤ length (now s)) × (base + length (now s) ≤ 61440) ⌝ }
-    ensures { λ r. ⌜ Wrote (numbered i 0 (innersFrom (λ (a : ℕ). base + a) (now (s .entry)) (countAt (now (s .entry)) g) (g + 6))) n r (now (at .entry)) (now (outer .entry)) (now (inner .entry)) (now (height .entry)) (now (at .exit)) (now (outer .exit)) (now (inner .exit)) (now (height .exit)) ⌝ }
+    requires { ⌜ (way .place + countAt (now s) g ≤ 1024) × (groupEnd (now s) g ≤ length (now s)) × (way .base + length (now s) ≤ 61440) ⌝ }
+    ensures { λ r. ⌜ Wrote (membersAt (now (s .entry)) (way .base) (way .outer) g) (way .place) r
+        (columns (now (at .entry)) (now (outer .entry)) (now (inner .entry)) (now (height .entry)))
+        (columns (now (at .exit)) (now (outer .exit)) (now (inner .exit)) (now (height .exit))) ⌝ }
 {
+    let base = way.base;
+    let i = way.outer;
+    let n = way.place;
     let count = wire::u16_at(s, g + 4) as usize;
     let mut to = g + 6;
     let mut j = 0;
@@ -133,49 +63,44 @@ fn members(
     n + count
 }
 
-// The groups of outer i, from place n on.
+// The groups of an outer instruction, from the first one on.
 fn own_groups(
     s: &[u8],
-    base: usize,
     place: &[u16; 1024],
     next: &[u16; 1024],
-    first: &[u16; 1024],
-    i: u32,
-    n: usize,
+    way: Way,
     at: &mut [u32; 1024],
     outer: &mut [u32; 1024],
     inner: &mut [u32; 1024],
     height: &mut [u64; 1024],
 ) -> usize
-    requires { ⌜ Chained (now s) i (now place) (now next) (now first) ⌝ }
-    requires { ⌜ (i < 1024) × (n + length (inside i (map (placedAt base (now s)) (groupsAt (now s)))) ≤ 1024) × (base + length (now s) ≤ 61440) ⌝ }
-    ensures { λ r. ⌜ Wrote (inside i (map (placedAt base (now (s .entry))) (groupsAt (now (s .entry))))) n r (now (at .entry)) (now (outer .entry)) (now (inner .entry)) (now (height .entry)) (now (at .exit)) (now (outer .exit)) (now (inner .exit)) (now (height .exit)) ⌝ }
+    requires { ⌜ Chained (now s) (way .outer) (now place) (now next) (way .group) ⌝ }
+    requires { ⌜ way .place + length (insideAt (now s) (way .base) (way .outer) (groupsAt (now s))) ≤ 1024 ⌝ }
+    requires { ⌜ way .base + length (now s) ≤ 61440 ⌝ }
+    ensures { λ r. ⌜ Wrote (insideAt (now (s .entry)) (way .base) (way .outer) (groupsAt (now (s .entry)))) (way .place) r
+        (columns (now (at .entry)) (now (outer .entry)) (now (inner .entry)) (now (height .entry)))
+        (columns (now (at .exit)) (now (outer .exit)) (now (inner .exit)) (now (height .exit))) ⌝ }
 {
-    let mut c = first[i as usize] as usize;
-    let mut k = n;
+    let base = way.base;
+    let i = way.outer;
+    let mut c = way.group;
+    let mut k = way.place;
     while 0 < c {
-        k = members(
-            s,
+        let here = Way {
             base,
-            place[c - 1] as usize,
-            i,
-            k,
-            at,
-            outer,
-            inner,
-            height,
-        );
+            outer: i,
+            group: c,
+            place: k,
+        };
+        k = members(s, place[c - 1] as usize, here, at, outer, inner, height);
         c = next[c - 1] as usize;
     }
     k
 }
 
-// Each outer instruction with its groups: `outs` is the section of the outer instructions, which starts at `from`.
+// Each outer instruction with its groups, which the chains lead to, of a pack that no refusal meets.
 fn spread(
-    s: &[u8],
-    base: usize,
-    from: usize,
-    outs: &[u8],
+    pack: &[u8],
     place: &[u16; 1024],
     next: &[u16; 1024],
     first: &[u16; 1024],
@@ -184,11 +109,15 @@ fn spread(
     inner: &mut [u32; 1024],
     height: &mut [u64; 1024],
 ) -> usize
-    requires { ⌜ ((i : ℕ) → i < length (outersAt (now outs)) → Chained (now s) i (now place) (now next) (now first)) ⌝ }
-    requires { ⌜ (outersWhole (now outs) ≡ true) × (from + length (now outs) ≤ 61440) × (base + length (now s) ≤ 61440) ⌝ }
-    requires { ⌜ length (spreadOf from base (now s) (outersAt (now outs))) ≤ 1024 ⌝ }
-    ensures { λ r. ⌜ Wrote (spreadOf from base (now (s .entry)) (outersAt (now (outs .entry)))) 0 r (now (at .entry)) (now (outer .entry)) (now (inner .entry)) (now (height .entry)) (now (at .exit)) (now (outer .exit)) (now (inner .exit)) (now (height .exit)) ⌝ }
+    requires { ⌜ (refusalNumber (verdict (now pack)) ≡ 0) × AllChained (now pack) (now place) (now next) (now first) ⌝ }
+    ensures { λ r. ⌜ Wrote (layout (now (pack .entry))) 0 r
+        (columns (now (at .entry)) (now (outer .entry)) (now (inner .entry)) (now (height .entry)))
+        (columns (now (at .exit)) (now (outer .exit)) (now (inner .exit)) (now (height .exit))) ⌝ }
 {
+    let outs = super::section(pack, 2);
+    let s = super::section(pack, 3);
+    let from = super::trailer::start(pack, 2);
+    let base = super::trailer::start(pack, 3);
     let mut n = 0;
     let mut i = 0;
     let mut to = 0;
@@ -197,19 +126,15 @@ fn spread(
         outer[n] = i;
         inner[n] = 0;
         height[n] = 2;
-        n = own_groups(
-            s,
+        n += 1;
+        let group = first[i as usize] as usize;
+        let way = Way {
             base,
-            place,
-            next,
-            first,
-            i,
-            n + 1,
-            at,
-            outer,
-            inner,
-            height,
-        );
+            outer: i,
+            group,
+            place: n,
+        };
+        n = own_groups(s, place, next, way, at, outer, inner, height);
         to = super::item_end(outs, to);
         i += 1;
     }
@@ -224,32 +149,16 @@ fn fill(
     inner: &mut [u32; 1024],
     height: &mut [u64; 1024],
 ) -> usize
-    requires { ⌜ numberOf (verdict (now pack)) ≡ 0 ⌝ }
-    ensures { λ r. ⌜ Wrote (layout (now (pack .entry))) 0 r (now (at .entry)) (now (outer .entry)) (now (inner .entry)) (now (height .entry)) (now (at .exit)) (now (outer .exit)) (now (inner .exit)) (now (height .exit)) ⌝ }
+    requires { ⌜ refusalNumber (verdict (now pack)) ≡ 0 ⌝ }
+    ensures { λ r. ⌜ Wrote (layout (now (pack .entry))) 0 r
+        (columns (now (at .entry)) (now (outer .entry)) (now (inner .entry)) (now (height .entry)))
+        (columns (now (at .exit)) (now (outer .exit)) (now (inner .exit)) (now (height .exit))) ⌝ }
 {
-    let outs = super::section(pack, 2);
-    let o = outer_count(outs);
-    let s = super::section(pack, 3);
     let mut place = [0u16; 1024];
-    let n = kept_places(s, o, &mut place);
     let mut next = [0u16; 1024];
     let mut first = [0u16; 1024];
-    link(s, &place, n, &mut next, &mut first);
-    let base = super::trailer::start(pack, 3);
-    let from = super::trailer::start(pack, 2);
-    spread(
-        s,
-        base,
-        from,
-        outs,
-        &place,
-        &next,
-        &first,
-        at,
-        outer,
-        inner,
-        height,
-    )
+    super::chain::chain(pack, &mut place, &mut next, &mut first);
+    spread(pack, &place, &next, &first, at, outer, inner, height)
 }
 
 // What flattening finds: the verdict, and how many invocations there are (none where the pack is refused).
@@ -266,7 +175,8 @@ pub fn flatten(
     inner: &mut [u32; 1024],
     height: &mut [u64; 1024],
 ) -> Flat
-    ensures { λ r. ⌜ (r .verdict ≡ verdict (now (pack .entry))) × Flattened (now (pack .entry)) (r .count) (now (at .exit)) (now (outer .exit)) (now (inner .exit)) (now (height .exit)) ⌝ }
+    ensures { λ r. ⌜ (r .verdict ≡ verdict (now (pack .entry)))
+        × Flattened (now (pack .entry)) (r .count) (now (at .exit)) (now (outer .exit)) (now (inner .exit)) (now (height .exit)) ⌝ }
 {
     *at = [0u32; 1024];
     *outer = [0u32; 1024];

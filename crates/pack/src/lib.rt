@@ -7,8 +7,9 @@ ghost use Prim.Native.Nat.{_+_, _<_, _≤_};
 ghost use lib.ListN.{length, getD};
 ghost use Rattle.wire.specs.Le.{le};
 ghost use Rattle.pack.specs.Items.{itemEnd};
-ghost use Rattle.pack.specs.Verdict.{verdict, numberOf, placeOf};
+ghost use Rattle.pack.specs.Verdict.{verdict, refusalNumber, placeOf};
 
+mod chain;
 pub mod flat;
 pub mod item;
 pub mod trailer;
@@ -34,7 +35,7 @@ pub enum Verdict {
 
 // The number of a refusal, 0 for none.
 pub fn number(v: Verdict) -> u32
-    ensures { λ r. ⌜ r ≡ numberOf v ⌝ }
+    ensures { λ r. ⌜ r ≡ refusalNumber v ⌝ }
 {
     match v {
         Verdict::Good => 0,

@@ -13,10 +13,10 @@ use Rattle.ids.specs.declared.Id.{Id}
 use Rattle.natives.specs.declared.Native.{Native}
 use Rattle.natives.specs.declared.Native.the-variants.{Nothing, Fund, Sync, Close}
 use Rattle.natives.specs.Natives.{nativeAction}
-use Rattle.natives.specs.Numbers.{valueOf, sizedOf}
+use Rattle.natives.specs.Numbers.{actionValue, sizedOf}
 use Rattle.natives.proofs.Forms.{unsized}
 use Rattle.natives.proofs.Laws.{native-is, no-form}
-use Rattle.natives.specs.Rows.{rowBy, rowsOf}
+use Rattle.natives.specs.Rows.{actionRowBy, actionBytes}
 use Rattle.route.specs.Widths.{actionWidth}
 use Rattle.route.specs.Lay.{placed}
 use Rattle.route.specs.Known.{rowIf}
@@ -32,18 +32,18 @@ count-le (Close h d a) = omega arith
 pub unasked : (κ : ℕ → Key) (count : ℕ) (id : Id) (accounts d : List ℕ) (μ : Key → Option Key) → sizedOf id (length d) ≡ false → nativeAction κ count id accounts d μ ≡ none
 unasked κ count id accounts d μ e =
     native-is κ count id accounts d μ
-    ∙ rw (unsized id accounts d e) (ap (valueOf κ) (sym (no-form count Nothing accounts (μ (κ 0)) refl)))
+    ∙ rw (unsized id accounts d e) (ap (actionValue κ) (sym (no-form count Nothing accounts (μ (κ 0)) refl)))
 
 -- κ gives the key of an index
 module _ (κ : ℕ → Key) (i : ℕ) where
-  pub row-counted : (n : Native) → actionCount n ≡ length (rowIf (λ a. rowBy i (a .held) (a .action)) (valueOf κ n))
+  pub row-counted : (n : Native) → actionCount n ≡ length (rowIf (λ a. actionRowBy i (a .held) (a .action)) (actionValue κ n))
   row-counted Nothing = refl
   row-counted (Fund h s l) = refl
   row-counted (Sync h) = refl
   row-counted (Close h d a) = refl
 
   pub row-placed : (n : Native) (out : List ℕ) (k : ℕ)
-      → sets out (k * actionWidth) (rowsOf i (valueOf κ n)) ≡ placed actionWidth k (rowIf (λ a. rowBy i (a .held) (a .action)) (valueOf κ n)) out
+      → sets out (k * actionWidth) (actionBytes i (actionValue κ n)) ≡ placed actionWidth k (rowIf (λ a. actionRowBy i (a .held) (a .action)) (actionValue κ n)) out
   unfolding placed
   row-placed Nothing out k = refl
   row-placed (Fund h s l) out k = refl

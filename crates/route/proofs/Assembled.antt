@@ -9,20 +9,25 @@ use native.Mathlib.Nat.{zero-add, add-assoc, zero-mul, one-mul}
 use native.Mathlib.Omega.{arith}
 use borrow.Author.Tests.{lt-ltb}
 use lib.ListN.{length, getD}
+use lib.Seq.{sets}
+use Rattle.wire.specs.Zeros.{zeros}
 use Rattle.ids.specs.Keys.{Key}
 use Rattle.pack.specs.Invocation.{Instruction, Position, positionAt}
 use Rattle.evidence.specs.MintTable.{MintRow}
-use Rattle.subtrees.specs.Subtrees.{tab, place, positions, bits, insideOf, Subtrees}
-use Rattle.subtrees.proofs.Arrays.{tab-length, tab-at, tab-same, positions-length}
+use Rattle.wire.specs.Tab.{tab}
+use Rattle.subtrees.specs.Subtrees.{positionIn, positions, bits, insideOf, insidesOf, Subtrees}
+use Rattle.wire.proofs.Tab.{tab-length, tab-at, tab-same}
+use Rattle.subtrees.proofs.Arrays.{positions-length}
 use Rattle.subtrees.proofs.Claims.{end-at, inside-at, insides-same}
-use Rattle.route.specs.Arrays.{itemAt, ownFor, ownAt, ownBits, bitsAt, rowAt}
-use Rattle.route.specs.Known.{present, rowIf, numberAt}
+use Rattle.route.specs.Arrays.{itemAt, ownFor, ownAt, ownsOf, ownBits, bitsAt, rowAt}
+use Rattle.route.specs.Known.{present, rowIf, rowNumberAt}
 use Rattle.route.specs.Lay.{rowsOf}
 use Rattle.route.specs.Program.{Programs}
 use Rattle.route.specs.Transfers.{transferOf, transferRows}
 use Rattle.route.specs.Legs.{legOf, legRows}
+use Rattle.route.specs.Row.{invocationRow}
 use Rattle.route.specs.Tables.{item, ownOf, flagsOf, legNumber, invocationAt}
-use Rattle.route.proofs.Lists.{map-tab, take-tab}
+use Rattle.route.proofs.Lists.{map-tab, take-tab, array-at}
 
 -- a value has one row, and none has none
 row-count : {A : Type 0} (f : A → List ℕ) (o : Option A) → length (rowIf f o) ≡ cond (present o) 1 0
@@ -48,16 +53,40 @@ leg-number : (s : Bool) (m : ℕ) → cond s 1 0 * suc m ≡ cond s (suc m) 0
 leg-number true m = one-mul (suc m)
 leg-number false m = zero-mul (suc m)
 
+-- the inside bits that a list of them holds at a place
+inside-in : (ps : List Position) (own : List ℕ) (i : ℕ) → i < length ps → getD (insidesOf ps own) i 0 ≡ insideOf ps own i
+inside-in ps own i k = tab-at (insideOf ps own) 0 0 (length ps) i k ∙ rw zero-add
+
+-- the arrays that `put_own` and `subtrees` leave give the row of each invocation
+module _ (n tests : ℕ) (outer inner height programs moved leg own ends inside : List ℕ) (few : n ≤ 1024) (owns : own ≡ sets (zeros 1024) 0 (ownsOf moved leg n)) (blocks : Subtrees (positions outer inner height n) own tests ends inside) where
+  abbrev stood : List Position
+  stood = positions outer inner height n
+
+  owned : (y : ℕ) → y < length stood → getD own y 0 ≡ getD (ownsOf moved leg (length stood)) y 0
+  owned y h =
+      let k : y < n = omega (arith, positions-length outer inner height n) in
+      array-at (zeros 1024) own (ownAt moved leg) n y owns few k ∙ sym (tab-at (ownAt moved leg) 0 0 (length stood) y h ∙ rw zero-add)
+
+  insides : (i : ℕ) → i < length stood → getD inside i 0 ≡ getD (insidesOf stood (ownsOf moved leg (length stood))) i 0
+  insides i k =
+      inside-at blocks i k
+      ∙ sym (inside-in stood own i k)
+      ∙ ap (λ (l : List ℕ). getD l i 0) (insides-same stood own (ownsOf moved leg (length stood)) (λ y h. owned y h))
+
+  pub row-by : (i : ℕ) → i < n → invocationRow (positionAt outer inner height i) (getD ends i 0) (bitsAt programs inside moved leg i) (getD leg i 0) ≡ rowAt stood programs moved leg i
+  unfolding rowAt bitsAt positionIn positions positionAt
+  row-by i h =
+      let k : i < length stood = omega (arith, positions-length outer inner height n) in
+      let q : positionAt outer inner height i ≡ positionIn stood i = sym (tab-at (positionAt outer inner height) _ 0 n i h ∙ rw zero-add) in
+      rw (q, end-at blocks i k, insides i k)
+
 -- what the arrays hold, over the n instructions at the offsets of pack p; table is the rows of table 0
-pub record Gathered (names ks p : List ℕ) (pools : List Key) (table : List MintRow) (n tests : ℕ) (at programs outer inner height moved leg own ends inside : List ℕ) : Type 0 where
-  pub few : n ≤ 1024
+pub record ArraysGathered (names ks p : List ℕ) (pools : List Key) (table : List MintRow) (n : ℕ) (at programs moved leg : List ℕ) : Type 0 where
   pub known : Programs ks (itemAt p at) n programs
   pub moves : (i : ℕ) → i < n → getD moved i 0 ≡ length (transferRows ks table i (itemAt p at i))
-  pub numbers : (i : ℕ) → i < n → getD leg i 0 ≡ numberAt (legRows names ks pools table) (itemAt p at) i
-  pub owns : (i : ℕ) → i < n → getD own i 0 ≡ ownAt moved leg i
-  pub blocks : Subtrees (positions outer inner height n) own tests ends inside
+  pub numbers : (i : ℕ) → i < n → getD leg i 0 ≡ rowNumberAt (legRows names ks pools table) (itemAt p at) i
 
-module _ (names ks p : List ℕ) (pools : List Key) (table : List MintRow) (n tests : ℕ) (at programs outer inner height moved leg own ends inside : List ℕ) (g : Gathered names ks p pools table n tests at programs outer inner height moved leg own ends inside) where
+module _ (names ks p : List ℕ) (pools : List Key) (table : List MintRow) (n : ℕ) (at programs outer inner height moved leg : List ℕ) (g : ArraysGathered names ks p pools table n at programs moved leg) where
   abbrev xs : List Instruction
   xs = tab (itemAt p at) 0 n
 
@@ -76,30 +105,26 @@ module _ (names ks p : List ℕ) (pools : List Key) (table : List MintRow) (n te
   before i = length (rowsOf (legRows names ks pools table) 0 (tab (itemAt p at) 0 i))
 
   leg-is : (i : ℕ) → i < n → getD leg i 0 ≡ cond (present (legOf names ks pools table (itemAt p at i))) 1 0 * suc (before i)
-  unfolding legRows numberAt
+  unfolding legRows rowNumberAt
   leg-is i h = g .numbers i h ∙ ap (λ (k : ℕ). k * suc (before i)) (row-count _ (legOf names ks pools table (itemAt p at i)))
 
-  own-is : (i : ℕ) → i < n → getD own i 0 ≡ ownOf names ks pools table (itemAt p at i)
+  own-is : (i : ℕ) → i < n → ownAt moved leg i ≡ ownOf names ks pools table (itemAt p at i)
   unfolding ownAt ownOf
-  own-is i h = g .owns i h ∙ rw (moved-is i h, leg-is i h) (own-bits (present (transferOf ks (itemAt p at i))) (present (legOf names ks pools table (itemAt p at i))) (before i))
+  own-is i h = rw (moved-is i h, leg-is i h) (own-bits (present (transferOf ks (itemAt p at i))) (present (legOf names ks pools table (itemAt p at i))) (before i))
 
-  owns-same : (y : ℕ) → y < length ps → getD own y 0 ≡ getD (map (ownOf names ks pools table) xs) y 0
+  owns-same : (y : ℕ) → y < length ps → getD (ownsOf moved leg (length ps)) y 0 ≡ getD (map (ownOf names ks pools table) xs) y 0
   owns-same y h =
       let k : y < n = omega (arith, positions-length outer inner height n) in
-      own-is y k ∙ sym (rw (map-tab (ownOf names ks pools table) (itemAt p at) 0 n) (tab-at _ 0 0 n y k ∙ rw zero-add))
+      tab-at (ownAt moved leg) 0 0 (length ps) y h
+      ∙ rw zero-add (own-is y k ∙ sym (rw (map-tab (ownOf names ks pools table) (itemAt p at) 0 n) (tab-at _ 0 0 n y k ∙ rw zero-add)))
 
-  inside-is : (i : ℕ) → i < n → getD inside i 0 ≡ insideOf ps (map (ownOf names ks pools table) xs) i
+  inside-is : (i : ℕ) → i < n → getD (insidesOf ps (ownsOf moved leg (length ps))) i 0 ≡ insideOf ps (map (ownOf names ks pools table) xs) i
   inside-is i h =
       let k : i < length ps = omega (arith, positions-length outer inner height n) in
-      inside-at (g .blocks) i k ∙ each i k
-    where
-      each : (i : ℕ) → i < length ps → insideOf ps own i ≡ insideOf ps (map (ownOf names ks pools table) xs) i
-      each i k =
-          sym (tab-at (insideOf ps own) 0 0 (length ps) i k ∙ rw zero-add)
-          ∙ ap (λ (l : List ℕ). getD l i 0) (insides-same ps own (map (ownOf names ks pools table) xs) (λ y h. owns-same y h))
-          ∙ (tab-at (insideOf ps (map (ownOf names ks pools table) xs)) 0 0 (length ps) i k ∙ rw zero-add)
+      ap (λ (l : List ℕ). getD l i 0) (insides-same ps (ownsOf moved leg (length ps)) (map (ownOf names ks pools table) xs) (λ y q. owns-same y q))
+      ∙ inside-in ps (map (ownOf names ks pools table) xs) i k
 
-  flags-is : (i : ℕ) → i < n → bitsAt programs inside moved leg i ≡ insideOf ps (map (ownOf names ks pools table) xs) i + flagsOf names ks pools table (item xs i)
+  flags-is : (i : ℕ) → i < n → bitsAt programs (insidesOf ps (ownsOf moved leg (length ps))) moved leg i ≡ insideOf ps (map (ownOf names ks pools table) xs) i + flagsOf names ks pools table (item xs i)
   unfolding bitsAt flagsOf
   flags-is i h =
       rw
@@ -113,13 +138,10 @@ module _ (names ks p : List ℕ) (pools : List Key) (table : List MintRow) (n te
       ∙ leg-number (present (legOf names ks pools table (itemAt p at i))) (before i)
       ∙ sym (rw (here i h, take-tab (itemAt p at) 0 i n (omega arith)))
 
-  row-is : (i : ℕ) → i < n → rowAt programs outer inner height ends inside moved leg i ≡ invocationAt names ks pools table ps xs i
-  unfolding rowAt invocationAt place positions positionAt
-  row-is i h =
-      let k : i < length ps = omega (arith, positions-length outer inner height n) in
-      let q : positionAt outer inner height i ≡ place ps i = sym (tab-at (positionAt outer inner height) _ 0 n i h ∙ rw zero-add) in
-      rw (q, end-at (g .blocks) i k, flags-is i h, number-is i h)
+  row-is : (i : ℕ) → i < n → rowAt ps programs moved leg i ≡ invocationAt names ks pools table ps xs i
+  unfolding rowAt invocationAt
+  row-is i h = rw (flags-is i h, number-is i h)
 
   -- so are all of them
-  pub rows-are : tab (rowAt programs outer inner height ends inside moved leg) 0 n ≡ tab (invocationAt names ks pools table ps xs) 0 (length xs)
-  rows-are = tab-same _ _ 0 n (λ k h l. row-is k (omega arith)) ∙ rw (tab-length (itemAt p at) 0 n)
+  pub rows-are : tab (rowAt ps programs moved leg) 0 (length ps) ≡ tab (invocationAt names ks pools table ps xs) 0 (length xs)
+  rows-are = rw (positions-length outer inner height n) (tab-same _ _ 0 n (λ k h l. row-is k (omega arith)) ∙ rw (tab-length (itemAt p at) 0 n))

@@ -1,20 +1,15 @@
--- What the public call promises, in the words of the demands: one result, and refusals that leave nothing and count nothing.
+-- What the public call promises, in the words of the demands: one result, and refusals that leave nothing and count nothing. The first holds because the
+-- contract is equations, the rest because every way in which a call is refused is `refused`.
 -- Assumes nothing.
-use mathlib.Core.Path.{_≡_, refl, sym, _∙_}
+use mathlib.Core.Path.{_≡_, refl, sym, ap, _∙_}
 use mathlib.Core.Logic.{_≢_}
-use mathlib.Core.Bool.{Bool, true, false, cond}
-use mathlib.Core.Option.{Option, none, some}
 use mathlib.Core.List.{List}
-use Prim.Native.Nat.{ℕ, _/_}
-use lib.Dec.{ltb, eqb}
-use lib.ListN.{length}
-use Rattle.pack.specs.Verdict.{verdict, numberOf, placeOf}
-use Rattle.route.specs.Widths.{mintWidth, invocationWidth, transferWidth, legWidth, actionWidth}
+use Prim.Native.Nat.{ℕ}
 use Rattle.route.specs.declared.Answer.{Answer}
-use Rattle.route.specs.Tables.{Tables}
-use Rattle.route.specs.Route.{Lent, Routed, refused, accepted, fitted, passed, tablesIn, judged, route, Leaves}
+use Rattle.route.specs.Route.{Lent, Routed, refused, accepted, route, Leaves}
+use Rattle.route.specs.Laid.{AllZero}
 use Rattle.route.specs.Fit.{refusal}
-use Rattle.route.proofs.Called.{Blank, refused-blank, judged-blank}
+use Rattle.route.proofs.Ways.{Ways, early, crowded, later, good, ways}
 
 -- for every input one answer, and one content of each table
 module _ {names p t0 t1 t2 t3 t4 : List ℕ} {r r′ : Answer} {o0 o1 o2 o3 o4 o0′ o1′ o2′ o3′ o4′ : List ℕ} (x : Leaves names p t0 t1 t2 t3 t4 r o0 o1 o2 o3 o4) (y : Leaves names p t0 t1 t2 t3 t4 r′ o0′ o1′ o2′ o3′ o4′) where
@@ -28,56 +23,29 @@ module _ {names p t0 t1 t2 t3 t4 : List ℕ} {r r′ : Answer} {o0 o1 o2 o3 o4 o
     x .natives ∙ sym (y .natives),
   )
 
--- every refusal leaves all five tables zero throughout
-pub blank : (names p : List ℕ) (l : Lent) → route names p l .answer .number ≢ 0 → Blank l (route names p l)
-unfolding route
-blank names p l = go (eqb (length names) 88)
-  where
-    go : (a : Bool) → cond a (judged names p l (verdict p)) (refused 1 0 l) .answer .number ≢ 0 → Blank l (cond a (judged names p l (verdict p)) (refused 1 0 l))
-    go true n = judged-blank names p l (verdict p) n
-    go false n = refused-blank 1 0 l
+module _ (names p : List ℕ) (l : Lent) where
+  refused-by : {r : Routed} → Ways names p l r → r .answer .number ≢ 0 → r ≡ refused (r .answer .number) (r .answer .place) l
+  unfolding refused accepted
+  refused-by (early n k h f) z = refl
+  refused-by (crowded x q h) z = refl
+  refused-by (later x k q h f) z = refl
+  refused-by (good x q s f) z = absurd (z refl)
 
--- a refusal's answer is its number and its place, and all counts are 0
-fitted-counts : (a b c d e : Bool) (l : Lent) (rest : Routed) → rest .answer .number ≡ 0
-    → cond a (refused 8 0 l) (cond b (refused 8 1 l) (cond c (refused 8 2 l) (cond d (refused 8 3 l) (cond e (refused 8 4 l) rest)))) .answer .number ≢ 0
-    → cond a (refused 8 0 l) (cond b (refused 8 1 l) (cond c (refused 8 2 l) (cond d (refused 8 3 l) (cond e (refused 8 4 l) rest)))) .answer
-    ≡ refusal
-    (cond a (refused 8 0 l) (cond b (refused 8 1 l) (cond c (refused 8 2 l) (cond d (refused 8 3 l) (cond e (refused 8 4 l) rest)))) .answer .number)
-    (cond a (refused 8 0 l) (cond b (refused 8 1 l) (cond c (refused 8 2 l) (cond d (refused 8 3 l) (cond e (refused 8 4 l) rest)))) .answer .place)
-unfolding refused
-fitted-counts true b c d e l rest z n = refl
-fitted-counts false true c d e l rest z n = refl
-fitted-counts false false true d e l rest z n = refl
-fitted-counts false false false true e l rest z n = refl
-fitted-counts false false false false true l rest z n = refl
-fitted-counts false false false false false l rest z n = absurd (n z)
+  -- every refusal leaves all five tables zero throughout
+  pub blank : route names p l .answer .number ≢ 0 → AllZero l (route names p l)
+  unfolding refused
+  blank z =
+      let e = refused-by (ways names p l) z in
+      record {
+        mints = ap (λ (r : Routed). r .mints) e;
+        invocations = ap (λ (r : Routed). r .invocations) e;
+        transfers = ap (λ (r : Routed). r .transfers) e;
+        legs = ap (λ (r : Routed). r .legs) e;
+        natives = ap (λ (r : Routed). r .natives) e;
+      }
 
-passed-counts : (o : Option Tables) (l : Lent) → passed o l .answer .number ≢ 0 → passed o l .answer ≡ refusal (passed o l .answer .number) (passed o l .answer .place)
-unfolding passed fitted refused accepted
-passed-counts none l n = refl
-passed-counts (some t) l n =
-    fitted-counts
-    (ltb (l .mints / mintWidth) (t .room))
-    (ltb (l .invocations / invocationWidth) (length (t .invocations)))
-    (ltb (l .transfers / transferWidth) (length (t .transfers)))
-    (ltb (l .legs / legWidth) (length (t .legs)))
-    (ltb (l .natives / actionWidth) (length (t .natives)))
-    l
-    (accepted t l)
-    refl
-    n
-
-pub no-counts : (names p : List ℕ) (l : Lent) → route names p l .answer .number ≢ 0
-    → route names p l .answer ≡ refusal (route names p l .answer .number) (route names p l .answer .place)
-unfolding route judged refused
-no-counts names p l = outer (eqb (length names) 88) (eqb (numberOf (verdict p)) 0)
-  where
-    outer : (a b : Bool)
-        → cond a (cond b (passed (tablesIn names p) l) (refused (numberOf (verdict p)) (placeOf (verdict p)) l)) (refused 1 0 l) .answer .number ≢ 0
-        → cond a (cond b (passed (tablesIn names p) l) (refused (numberOf (verdict p)) (placeOf (verdict p)) l)) (refused 1 0 l) .answer
-        ≡ refusal
-        (cond a (cond b (passed (tablesIn names p) l) (refused (numberOf (verdict p)) (placeOf (verdict p)) l)) (refused 1 0 l) .answer .number)
-        (cond a (cond b (passed (tablesIn names p) l) (refused (numberOf (verdict p)) (placeOf (verdict p)) l)) (refused 1 0 l) .answer .place)
-    outer true true n = passed-counts (tablesIn names p) l n
-    outer true false n = refl
-    outer false b n = refl
+  -- its answer is its number and its place, and all counts are 0
+  pub no-counts : route names p l .answer .number ≢ 0
+      → route names p l .answer ≡ refusal (route names p l .answer .number) (route names p l .answer .place)
+  unfolding refused
+  no-counts z = ap (λ (r : Routed). r .answer) (refused-by (ways names p l) z)

@@ -1,9 +1,9 @@
--- What `flatten`, `infer` and `finish` promise of a pack with a good verdict, put together.
+-- What `flatten` and `infer` promise of a pack with a good verdict, put together.
 -- Assumes nothing.
-use mathlib.Core.Path.{_≡_, sym, ap, _∙_}
+use mathlib.Core.Path.{_≡_, refl, sym, ap, _∙_}
 use mathlib.Core.Option.{Option, none, some}
 use mathlib.Core.List.{List, [], map}
-use Prim.Native.Nat.{ℕ, _-_, _/_, _%_, _≤_}
+use Prim.Native.Nat.{ℕ, _-_, _%_, _≤_}
 use native.Mathlib.Nat.{sub-zero, zero-add}
 use native.Mathlib.Omega.{arith}
 use borrow.Author.Tests.{eqb-true}
@@ -20,35 +20,38 @@ use Rattle.pack.specs.Items.{keysFill, rowsFill, rows}
 use Rattle.pack.specs.View.{viewOf, poolsIn}
 use Rattle.pack.specs.Flatten.{flatten}
 use Rattle.pack.specs.Layout.{Flattened, atOf, layout}
-use Rattle.pack.specs.Verdict.{verdict, numberOf}
+use Rattle.pack.specs.Verdict.{verdict, refusalNumber}
 use Rattle.pack.proofs.Good.{passed}
 use Rattle.pack.proofs.Entries.{count-is, entry}
-use Rattle.evidence.specs.MintTable.{Answer}
-use Rattle.mints.specs.Inference.{inferredIn, answerOf, rowsOf as rowsIn, finalOf}
+use Rattle.evidence.specs.MintTable.{MintAnswer}
+use Rattle.mints.specs.Inference.{inferredIn, answerOf, mintBytes, finalOf}
 use Rattle.mints.specs.Programs.{programsOf}
 use Rattle.mints.proofs.Programs.{programs-length, kept-program}
-use Rattle.mints.specs.Bytes.{tableBytes, mintsOf as finalMints}
+use Rattle.mints.specs.Bytes.{tableBytes, mintsOf}
 use Rattle.mints.specs.declared.Inferred.{Inferred}
-use Rattle.subtrees.specs.Subtrees.{tab, positions}
-use Rattle.swaps.specs.Row.{poolsOf}
+use Rattle.wire.specs.Tab.{tab}
+use Rattle.subtrees.specs.Subtrees.{positions}
 use Rattle.route.specs.Arrays.{itemAt}
+use Rattle.route.specs.Known.{Holds}
 use Rattle.route.specs.Program.{programOf, Programs}
 use Rattle.route.specs.Tables.{positionsOf, instructionsOf, tablesWith, tablesIf, tables}
 use Rattle.route.specs.Route.{tablesIn}
 use Rattle.route.specs.Order.{mintsIn}
-use Rattle.route.proofs.Lists.{map-tab, is-tab, keys-rows}
-use Rattle.route.proofs.OrderMints.{few-keys}
+use Rattle.route.proofs.Lists.{map-tab, is-tab}
+use Rattle.route.proofs.Inferring.{holds}
+use Rattle.route.proofs.OrderMints.{few-keys, answered, made, rows-room}
+use Rattle.route.proofs.Success.{sound}
 
 -- a position and an instruction that stand for none
 nowhere : Invocation
 nowhere = record { position = record { outer = 0; inner = none; height = none }; instruction = record { program = 0; accounts = []; bytes = [] } }
 
 -- the pools of a pack, as legs read them
-pub pools-are : (p : List ℕ) → poolsOf (sectionOf p 4) ≡ viewOf p .pools
-unfolding viewOf poolsIn
-pools-are p = keys-rows (sectionOf p 4) (length (sectionOf p 4) / 32) 0
+pub pools-are : (p : List ℕ) → poolsIn (sectionOf p 4) ≡ viewOf p .pools
+unfolding viewOf
+pools-are p = refl
 
-module _ (p : List ℕ) (n : ℕ) (at outer inner height : List ℕ) (e : numberOf (verdict p) ≡ 0) (w : Flattened p n at outer inner height) where
+module _ (p : List ℕ) (n : ℕ) (at outer inner height : List ℕ) (e : refusalNumber (verdict p) ≡ 0) (w : Flattened p n at outer inner height) where
   pub few : n ≤ 1024
   few = omega (arith, count-is p n at outer inner height e w, passed p e .few)
 
@@ -85,7 +88,7 @@ module _ (p : List ℕ) (n : ℕ) (at outer inner height : List ℕ) (e : number
       (keys-all, take-all 1024 (take n at) (omega (arith, few, at-length, length-take-le n at (omega (arith, few, at-length)))), offsets, map-tab (instructionAt p) (λ i. getD at i 0) 0 n, instructions-are)
 
   -- the tables of the pack, by the arrays
-  pub tables-are : (names : List ℕ) {x : Answer} → mintsIn p ≡ some x → tablesIn names p ≡ some (tablesWith names (sectionOf p 0) (poolsOf (sectionOf p 4)) (positions outer inner height n) (tab (itemAt p at) 0 n) x)
+  pub tables-are : (names : List ℕ) {x : MintAnswer} → mintsIn p ≡ some x → tablesIn names p ≡ some (tablesWith names (sectionOf p 0) (poolsIn (sectionOf p 4)) (positions outer inner height n) (tab (itemAt p at) 0 n) x)
   unfolding tables tablesIf
   tables-are names q = rw (q, instructions-are, positions-are, ← (pools-are p))
 
@@ -107,24 +110,66 @@ module _ (p : List ℕ) (n : ℕ) (at outer inner height : List ℕ) (e : number
       ∙ ap (λ (x : ℕ). programOf (sectionOf p 0) (instructionAt p x)) (getD-take n at i 0 l)
 
   -- what `infer` answers and leaves, when it is lent sections 0 and 1 and the first n offsets
-  module _ (k0 k1 : List ℕ) (h0 : k0 ≡ sectionOf p 0) (h1 : k1 ≡ sectionOf p 1) {x : Answer} (q : mintsIn p ≡ some x) where
+  module _ (k0 k1 : List ℕ) (h0 : k0 ≡ sectionOf p 0) (h1 : k1 ≡ sectionOf p 1) {x : MintAnswer} (q : mintsIn p ≡ some x) where
     same-is : inferredIn (take 8448 k0) k1 p (take 1024 (take (n - 0) (drop 0 at))) ≡ some x
     same-is = rw (h0, h1, sub-zero n) (inferred-is ∙ q)
 
     pub infer-answer : {r : Inferred} → r ≡ answerOf (inferredIn (take 8448 k0) k1 p (take 1024 (take (n - 0) (drop 0 at)))) → r ≡ answerOf (some x)
     infer-answer h = h ∙ ap answerOf same-is
 
-    pub infer-rows : (t : List ℕ) {o : List ℕ} → o ≡ sets t 0 (rowsIn (inferredIn (take 8448 k0) k1 p (take 1024 (take (n - 0) (drop 0 at))))) → o ≡ sets t 0 (tableBytes (x .rows))
-    unfolding rowsIn
-    infer-rows t h = h ∙ ap (λ (y : Option Answer). sets t 0 (rowsIn y)) same-is
+    pub infer-rows : (t : List ℕ) {o : List ℕ} → o ≡ sets t 0 (mintBytes (inferredIn (take 8448 k0) k1 p (take 1024 (take (n - 0) (drop 0 at))))) → o ≡ sets t 0 (tableBytes (x .rows))
+    unfolding mintBytes
+    infer-rows t h = h ∙ ap (λ (y : Option MintAnswer). sets t 0 (mintBytes y)) same-is
 
     pub infer-known : (t : List ℕ) {o : List ℕ} → o ≡ sets t 0 (finalOf (inferredIn (take 8448 k0) k1 p (take 1024 (take (n - 0) (drop 0 at)))) (keyOf (take 8448 k0)) (keyCount (take 8448 k0)))
-        → o ≡ sets t 0 (finalMints (x .rows) (keyOf (sectionOf p 0)) (keyCount (sectionOf p 0)))
+        → o ≡ sets t 0 (mintsOf (x .rows) (keyOf (sectionOf p 0)) (keyCount (sectionOf p 0)))
     unfolding finalOf
     infer-known t h =
         h
-        ∙ ap (λ (y : Option Answer). sets t 0 (finalOf y (keyOf (take 8448 k0)) (keyCount (take 8448 k0)))) same-is
-        ∙ ap (λ (k : List ℕ). sets t 0 (finalMints (x .rows) (keyOf k) (keyCount k))) (ap (take 8448) h0 ∙ keys-all)
+        ∙ ap (λ (y : Option MintAnswer). sets t 0 (finalOf y (keyOf (take 8448 k0)) (keyCount (take 8448 k0)))) same-is
+        ∙ ap (λ (k : List ℕ). sets t 0 (mintsOf (x .rows) (keyOf k) (keyCount k))) (ap (take 8448) h0 ∙ keys-all)
 
     pub known-length : {o : List ℕ} → o ≡ sets (zeros 8192) 0 (finalOf (inferredIn (take 8448 k0) k1 p (take 1024 (take (n - 0) (drop 0 at)))) (keyOf (take 8448 k0)) (keyCount (take 8448 k0))) → length o ≡ 8192
     known-length h = ap length h ∙ length-sets (zeros 8192) 0 (finalOf (inferredIn (take 8448 k0) k1 p (take 1024 (take (n - 0) (drop 0 at)))) (keyOf (take 8448 k0)) (keyCount (take 8448 k0))) ∙ length-replicate {A = ℕ} 8192 0
+
+-- what is known once `flatten` and `infer` have run on such a pack
+pub record Begun (p : List ℕ) (n : ℕ) (at outer inner height t o known programs : List ℕ) (r : Inferred) : Type 0 where
+  -- its mint table, with few rows and passes
+  pub table : MintAnswer
+  pub mints : mintsIn p ≡ some table
+  pub few-rows : length (table .rows) ≤ 256
+  pub few-passes : table .passes ≤ 256
+  -- which `infer` answers and writes
+  pub answer : r ≡ answerOf (some table)
+  pub rows : o ≡ sets t 0 (tableBytes (table .rows))
+  -- the arrays that the other tables are made from
+  pub few : n ≤ 1024
+  pub long : length known ≡ 8192
+  pub holds : Holds known (sectionOf p 0) (table .rows)
+  pub kept : Programs (sectionOf p 0) (itemAt p at) n programs
+  -- and what those are to be
+  pub tables : (names : List ℕ) → tablesIn names p ≡ some (tablesWith names (sectionOf p 0) (poolsIn (sectionOf p 4)) (positions outer inner height n) (tab (itemAt p at) 0 n) table)
+
+pub begun : (p : List ℕ) (n : ℕ) (at outer inner height : List ℕ) → refusalNumber (verdict p) ≡ 0 → Flattened p n at outer inner height
+    → (k0 k1 : List ℕ) → k0 ≡ sectionOf p 0 → k1 ≡ sectionOf p 1
+    → (t : List ℕ) {o known programs : List ℕ} {r : Inferred}
+    → r ≡ answerOf (inferredIn (take 8448 k0) k1 p (take 1024 (take (n - 0) (drop 0 at))))
+    → o ≡ sets t 0 (mintBytes (inferredIn (take 8448 k0) k1 p (take 1024 (take (n - 0) (drop 0 at)))))
+    → known ≡ sets (zeros 8192) 0 (finalOf (inferredIn (take 8448 k0) k1 p (take 1024 (take (n - 0) (drop 0 at)))) (keyOf (take 8448 k0)) (keyCount (take 8448 k0)))
+    → programs ≡ sets (zeros 1024) 0 (programsOf (take 8448 k0) p (take 1024 (take (n - 0) (drop 0 at))))
+    → Begun p n at outer inner height t o known programs r
+begun p n at outer inner height e w k0 k1 h0 h1 t {known = known} a b c d =
+    let x = answered p e in
+    record {
+      table = x .0;
+      mints = x .1;
+      few-rows = omega (arith, x .2, rows-room (made p (x .1)));
+      few-passes = x .3;
+      answer = infer-answer p n at outer inner height e w k0 k1 h0 h1 (x .1) a;
+      rows = infer-rows p n at outer inner height e w k0 k1 h0 h1 (x .1) t b;
+      few = few p n at outer inner height e w;
+      long = known-length p n at outer inner height e w k0 k1 h0 h1 (x .1) c;
+      holds = holds (sound p (x .1)) (sectionOf p 0) known (few-keys p e) (infer-known p n at outer inner height e w k0 k1 h0 h1 (x .1) (zeros 8192) c);
+      kept = infer-programs p n at outer inner height e w k0 h0 (zeros 1024) (length-replicate {A = ℕ} 1024 0) d;
+      tables = λ names. tables-are p n at outer inner height e w names (x .1);
+    }

@@ -1,4 +1,4 @@
--- What the steps of `finish` promise, put together.
+-- What the steps of `fill` promise, put together.
 -- Assumes nothing.
 use mathlib.Core.Path.{_≡_, _∙_}
 use mathlib.Core.Bool.{Bool, true, false}
@@ -6,28 +6,28 @@ use mathlib.Core.List.{List, _++_}
 use Prim.Native.Nat.{ℕ, zero, suc, _-_, _≤_}
 use native.Mathlib.Omega.{arith}
 use lib.ListN.{length, getD}
-use lib.Seq.{sets}
 use Rattle.wire.specs.Zeros.{zeros}
 use Rattle.wire.proofs.Zeros.{zeros-at}
 use Rattle.pack.specs.Invocation.{Position}
 use Rattle.pack.specs.Sections.{sectionOf}
 use Rattle.evidence.specs.MintTable.{MintRow}
-use Rattle.subtrees.specs.Subtrees.{tab, positions, taken, filled, bits, hasTransfer, hasSwap, within, insideOf, insidesOf, Subtrees}
+use Rattle.wire.specs.Tab.{tab}
+use Rattle.subtrees.specs.Subtrees.{positions, filled, bits, hasTransfer, hasSwap, within, insideOf, insidesOf, testsOf, Subtrees}
 use Rattle.subtrees.specs.Blocks.{someIn}
-use Rattle.subtrees.proofs.Arrays.{taken-all}
-use Rattle.swaps.specs.Row.{poolsOf}
+use Rattle.pack.specs.View.{poolsIn}
 use Rattle.route.specs.Widths.{invocationWidth, transferWidth, legWidth, actionWidth}
 use Rattle.route.specs.declared.Answer.{Answer}
-use Rattle.route.specs.Arrays.{itemAt, ownAt, rowAt}
+use Rattle.route.specs.Arrays.{itemAt, FillsEach}
 use Rattle.route.specs.Known.{Holds, Fills, Counts, Numbers}
-use Rattle.route.specs.Lay.{placed}
+use Rattle.route.specs.Lay.{rowsOf, placed}
 use Rattle.route.specs.Program.{Programs}
 use Rattle.route.specs.Transfers.{transferRows}
-use Rattle.route.specs.Legs.{legRows}
+use Rattle.route.specs.Legs.{legRowsIn}
 use Rattle.route.specs.Actions.{actionRows}
+use Rattle.route.specs.Tables.{invocationAt}
+use Rattle.route.specs.Route.{Lent, lent}
 use Rattle.route.specs.Fit.{fits}
-use Rattle.route.specs.Filled.{Finished}
-use Rattle.route.proofs.Assembled.{Gathered, rows-are}
+use Rattle.route.proofs.Assembled.{ArraysGathered, rows-are}
 use Rattle.route.proofs.Lists.{array-at}
 
 -- two bits are at most 3
@@ -55,20 +55,26 @@ pub inside-le : {ps : List Position} {own ends inside : List ℕ} {tests : ℕ} 
 unfolding filled
 inside-le {ps} {own} s i = rw (s .inside-left) (tab-le (insideOf ps own) (inside-two ps own) 0 (length ps) (1024 - length (insidesOf ps own)) i)
 
--- the steps, one after the other: transfers, legs, actions, what each invocation has itself, subtrees, the rows of table 1, the answer
-pub record Steps (names p ms at programs outer inner height : List ℕ) (n room m passes bytes : ℕ) (r : Answer) (t1 t2 t3 t4 o1 o2 o3 o4 moved leg own ends inside : List ℕ) (c2 c3 c4 tests : ℕ) : Type 0 where
+-- five tables have the lengths of five others
+pub record Kept (o0 o1 o2 o3 o4 t0 t1 t2 t3 t4 : List ℕ) : Type 0 where
+  pub mints : length o0 ≡ length t0
+  pub invocations : length o1 ≡ length t1
+  pub transfers : length o2 ≡ length t2
+  pub legs : length o3 ≡ length t3
+  pub natives : length o4 ≡ length t4
+
+-- what the steps of `fill` promise once the mints are inferred: transfers, legs, actions, the rows of table 1, the answer
+pub record Steps (names p ms at programs outer inner height : List ℕ) (n room m passes : ℕ) (r : Answer) (t0 t1 t2 t3 t4 o0 o1 o2 o3 o4 moved leg : List ℕ) (c2 c3 c4 tests : ℕ) : Type 0 where
   pub few : n ≤ 1024
   pub known : Programs (sectionOf p 0) (itemAt p at) n programs
-  pub transfers : Fills ms (sectionOf p 0) (transferRows (sectionOf p 0)) (itemAt p at) transferWidth n c2 t2 o2
-  pub moves : Counts ms (sectionOf p 0) (transferRows (sectionOf p 0)) (itemAt p at) n (zeros 1024) moved
-  pub legs : Fills ms (sectionOf p 0) (legRows names (sectionOf p 0) (poolsOf (sectionOf p 4))) (itemAt p at) legWidth n c3 t3 o3
-  pub numbers : Numbers ms (sectionOf p 0) (legRows names (sectionOf p 0) (poolsOf (sectionOf p 4))) (itemAt p at) n (zeros 1024) leg
-  pub actions : Fills ms (sectionOf p 0) (actionRows (sectionOf p 0)) (itemAt p at) actionWidth n c4 t4 o4
-  pub owns : own ≡ sets (zeros 1024) 0 (tab (ownAt moved leg) 0 n)
-  pub blocks : Subtrees (positions outer inner height (taken n)) own tests ends inside
-  pub rows : o1 ≡ placed invocationWidth 0 (tab (rowAt programs outer inner height ends inside moved leg) 0 n) t1
+  pub transfers : Fills ms p at (transferRows (sectionOf p 0)) transferWidth n c2 t2 o2
+  pub moves : Counts ms p at (transferRows (sectionOf p 0)) n (zeros 1024) moved
+  pub legs : Fills ms p at (legRowsIn names p) legWidth n c3 t3 o3
+  pub numbers : Numbers ms p at (legRowsIn names p) n (zeros 1024) leg
+  pub actions : Fills ms p at (actionRows (sectionOf p 0)) actionWidth n c4 t4 o4
+  pub rows : FillsEach (positions outer inner height n) programs moved leg tests t1 o1
   pub answer :
-      r ≡ fits (record { mints = bytes; invocations = length o1; transfers = length o2; legs = length o3; natives = length o4 }) room (record {
+      r ≡ fits (lent o0 o1 o2 o3 o4) room (record {
         number = 0;
         place = 0;
         mints = m;
@@ -79,36 +85,47 @@ pub record Steps (names p ms at programs outer inner height : List ℕ) (n room 
         passes = passes;
         tests = tests;
       })
-  pub kept1 : length o1 ≡ length t1
-  pub kept2 : length o2 ≡ length t2
-  pub kept3 : length o3 ≡ length t3
-  pub kept4 : length o4 ≡ length t4
+  pub kept : Kept o0 o1 o2 o3 o4 t0 t1 t2 t3 t4
 
-pub finished : {names p ms at programs outer inner height : List ℕ} {n room m passes bytes : ℕ} {r : Answer} {t1 t2 t3 t4 o1 o2 o3 o4 moved leg own ends inside : List ℕ} {c2 c3 c4 tests : ℕ}
-    → Steps names p ms at programs outer inner height n room m passes bytes r t1 t2 t3 t4 o1 o2 o3 o4 moved leg own ends inside c2 c3 c4 tests
+-- n invocations by their arrays, with the rows of table 0 behind an array of final mints: the answer for m rows of table 0 and that many passes, and tables 1 to 4
+pub record Finished (names p at outer inner height : List ℕ) (n room m passes : ℕ) (l : Lent) (table : List MintRow) (r : Answer) (t1 t2 t3 t4 o1 o2 o3 o4 : List ℕ) : Type 0 where
+  pub answer :
+      r ≡ fits l room (record {
+        number = 0;
+        place = 0;
+        mints = m;
+        invocations = n;
+        transfers = length (rowsOf (transferRows (sectionOf p 0) table) 0 (tab (itemAt p at) 0 n));
+        legs = length (rowsOf (legRowsIn names p table) 0 (tab (itemAt p at) 0 n));
+        natives = length (rowsOf (actionRows (sectionOf p 0) table) 0 (tab (itemAt p at) 0 n));
+        passes = passes;
+        tests = testsOf (positions outer inner height n);
+      })
+  pub invocations :
+      o1 ≡ placed invocationWidth 0 (tab (invocationAt names (sectionOf p 0) (poolsIn (sectionOf p 4)) table (positions outer inner height n) (tab (itemAt p at) 0 n)) 0 (length (tab (itemAt p at) 0 n))) t1
+  pub transfers : o2 ≡ placed transferWidth 0 (rowsOf (transferRows (sectionOf p 0) table) 0 (tab (itemAt p at) 0 n)) t2
+  pub legs : o3 ≡ placed legWidth 0 (rowsOf (legRowsIn names p table) 0 (tab (itemAt p at) 0 n)) t3
+  pub natives : o4 ≡ placed actionWidth 0 (rowsOf (actionRows (sectionOf p 0) table) 0 (tab (itemAt p at) 0 n)) t4
+
+pub finished : {names p ms at programs outer inner height : List ℕ} {n room m passes : ℕ} {r : Answer} {t0 t1 t2 t3 t4 o0 o1 o2 o3 o4 moved leg : List ℕ} {c2 c3 c4 tests : ℕ}
+    → Steps names p ms at programs outer inner height n room m passes r t0 t1 t2 t3 t4 o0 o1 o2 o3 o4 moved leg c2 c3 c4 tests
     → (table : List MintRow) → Holds ms (sectionOf p 0) table
-    → Finished names p ms at outer inner height n room m passes (record { mints = bytes; invocations = length t1; transfers = length t2; legs = length t3; natives = length t4 }) table r t1 t2 t3 t4 o1 o2 o3 o4
-finished {names} {p} {ms} {at} {programs} {outer} {inner} {height} {n} {room} {m} {passes} {bytes} {r} {t1} {t2} {t3} {t4} {o1} {o2} {o3} {o4} {moved} {leg} {own} {ends} {inside} {c2} {c3} {c4} {tests} s table h =
+    → Finished names p at outer inner height n room m passes (lent t0 t1 t2 t3 t4) table r t1 t2 t3 t4 o1 o2 o3 o4
+finished {names} {p} {at = at} {programs} {outer} {inner} {height} {n = n} {moved = moved} {leg} s table h =
     record {
       answer =
           s .answer
-          ∙ rw (s .kept1, s .kept2, s .kept3, s .kept4, s .transfers .counted table h, s .legs .counted table h, s .actions .counted table h, blocks .tests);
-      invocations = s .rows ∙ rw (rows-are names (sectionOf p 0) p (poolsOf (sectionOf p 4)) table n tests at programs outer inner height moved leg own ends inside gathered);
+          ∙ rw (s .kept .mints, s .kept .invocations, s .kept .transfers, s .kept .legs, s .kept .natives, s .transfers .counted table h, s .legs .counted table h, s .actions .counted table h, s .rows .tests);
+      invocations = s .rows .rows ∙ rw (rows-are names (sectionOf p 0) p (poolsIn (sectionOf p 4)) table n at programs outer inner height moved leg gathered);
       transfers = s .transfers .rows table h;
       legs = s .legs .rows table h;
       natives = s .actions .rows table h;
     }
   where
-    blocks : Subtrees (positions outer inner height n) own tests ends inside
-    blocks = rw (taken-all n (s .few)) at (s .blocks)
-
-    gathered : Gathered names (sectionOf p 0) p (poolsOf (sectionOf p 4)) table n tests at programs outer inner height moved leg own ends inside
+    gathered : ArraysGathered names (sectionOf p 0) p (poolsIn (sectionOf p 4)) table n at programs moved leg
     gathered =
         record {
-          few = s .few;
           known = s .known;
           moves = λ i l. array-at (zeros 1024) moved _ n i (s .moves .each table h) (s .few) l;
           numbers = λ i l. array-at (zeros 1024) leg _ n i (s .numbers .each table h) (s .few) l;
-          owns = λ i l. array-at (zeros 1024) own _ n i (s .owns) (s .few) l;
-          blocks = blocks;
         }

@@ -1,88 +1,84 @@
--- Refusal 8 as the code decides it, by the counts alone, is that of the definition.
+-- Which of five tables is too small is asked once, of the counts alone: table 0, a later one, or none. What the code answers and what the definition leaves
+-- both go by it, so they agree.
 -- Assumes nothing.
 use mathlib.Core.Path.{_≡_, refl}
 use mathlib.Core.Bool.{Bool, true, false, cond}
-use Prim.Native.Nat.{_/_, _≤_}
+use mathlib.Core.Option.{Option, none, some}
+use Prim.Native.Nat.{ℕ, _/_, _≤_, _<_}
 use native.Mathlib.Omega.{arith}
-use borrow.Author.Tests.{ltb-false}
+use borrow.Author.Tests.{ltb-true, ltb-false}
 use lib.Dec.{ltb}
-use lib.ListN.{length}
 use Rattle.route.specs.Widths.{mintWidth, invocationWidth, transferWidth, legWidth, actionWidth}
+use Rattle.route.specs.declared.Answer.{Answer}
 use Rattle.route.specs.Tables.{Tables}
-use Rattle.route.specs.Route.{Lent, Routed, refused, accepted, fitted}
-use Rattle.route.specs.Fit.{fits}
-
--- five tests, one after the other
-abbrev choose : {A : Type 0} → Bool → Bool → Bool → Bool → Bool → A → A → A → A → A → A → A
-choose a b c d e v w x y z rest = cond a v (cond b w (cond c x (cond d y (cond e z rest))))
-
-answer-of : (a b c d e : Bool) (v w x y z rest : Routed) → choose a b c d e v w x y z rest .answer ≡ choose a b c d e (v .answer) (w .answer) (x .answer) (y .answer) (z .answer) (rest .answer)
-answer-of true b c d e v w x y z rest = refl
-answer-of false true c d e v w x y z rest = refl
-answer-of false false true d e v w x y z rest = refl
-answer-of false false false true e v w x y z rest = refl
-answer-of false false false false true v w x y z rest = refl
-answer-of false false false false false v w x y z rest = refl
-
-pub fit-answer : (t : Tables) (l : Lent) → fitted t l .answer ≡ fits l (t .room) (accepted t l .answer)
-unfolding fitted fits refused accepted
-fit-answer t l =
-    answer-of
-    (ltb (l .mints / mintWidth) (t .room))
-    (ltb (l .invocations / invocationWidth) (length (t .invocations)))
-    (ltb (l .transfers / transferWidth) (length (t .transfers)))
-    (ltb (l .legs / legWidth) (length (t .legs)))
-    (ltb (l .natives / actionWidth) (length (t .natives)))
-    (refused 8 0 l)
-    (refused 8 1 l)
-    (refused 8 2 l)
-    (refused 8 3 l)
-    (refused 8 4 l)
-    (accepted t l)
-
--- an answer that is no refusal is a success, and none of the tests is true
-all-false : (a b c d e : Bool) (l : Lent) (rest : Routed)
-    → choose a b c d e (refused 8 0 l) (refused 8 1 l) (refused 8 2 l) (refused 8 3 l) (refused 8 4 l) rest .answer .number ≡ 0
-    → (choose a b c d e (refused 8 0 l) (refused 8 1 l) (refused 8 2 l) (refused 8 3 l) (refused 8 4 l) rest ≡ rest) × (a ≡ false) × (b ≡ false) × (c ≡ false) × (d ≡ false) × (e ≡ false)
-unfolding refused
-all-false true b c d e l rest q = absurd (omega arith)
-all-false false true c d e l rest q = absurd (omega arith)
-all-false false false true d e l rest q = absurd (omega arith)
-all-false false false false true e l rest q = absurd (omega arith)
-all-false false false false false true l rest q = absurd (omega arith)
-all-false false false false false false l rest q = (refl, refl, refl, refl, refl, refl)
+use Rattle.route.specs.Route.{Lent, refused, accepted, tooSmall, byRoom, fitted}
+use Rattle.route.specs.Fit.{refusal, fits}
 
 -- every table has room for its rows, and table 0 for ambiguous accounts too
-pub record Roomy (t : Tables) (l : Lent) : Type 0 where
-  pub mints : t .room ≤ l .mints / mintWidth
-  pub invocations : length (t .invocations) ≤ l .invocations / invocationWidth
-  pub transfers : length (t .transfers) ≤ l .transfers / transferWidth
-  pub legs : length (t .legs) ≤ l .legs / legWidth
-  pub natives : length (t .natives) ≤ l .natives / actionWidth
+pub record Roomy (l : Lent) (room : ℕ) (a : Answer) : Type 0 where
+  pub mints : room ≤ l .mints / mintWidth
+  pub invocations : a .invocations ≤ l .invocations / invocationWidth
+  pub transfers : a .transfers ≤ l .transfers / transferWidth
+  pub legs : a .legs ≤ l .legs / legWidth
+  pub natives : a .natives ≤ l .natives / actionWidth
 
-module _ (t : Tables) (l : Lent) (q : fitted t l .answer .number ≡ 0) where
-  decided : (fitted t l ≡ accepted t l) × (ltb (l .mints / mintWidth) (t .room) ≡ false) × (ltb (l .invocations / invocationWidth) (length (t .invocations)) ≡ false) × (ltb (l .transfers / transferWidth) (length (t .transfers)) ≡ false) × (ltb (l .legs / legWidth) (length (t .legs)) ≡ false) × (ltb (l .natives / actionWidth) (length (t .natives)) ≡ false)
-  unfolding fitted
-  decided =
-      all-false
-      (ltb (l .mints / mintWidth) (t .room))
-      (ltb (l .invocations / invocationWidth) (length (t .invocations)))
-      (ltb (l .transfers / transferWidth) (length (t .transfers)))
-      (ltb (l .legs / legWidth) (length (t .legs)))
-      (ltb (l .natives / actionWidth) (length (t .natives)))
-      l
-      (accepted t l)
-      q
+-- what it means that this table is too small, or none
+pub data Room (l : Lent) (room : ℕ) (a : Answer) : Option ℕ → Type 0 where
+  first : l .mints / mintWidth < room → Room l room a (some 0)
+  behind : (k : ℕ) → 0 < k → room ≤ l .mints / mintWidth → Room l room a (some k)
+  enough : Roomy l room a → Room l room a none
 
-  pub fit-accepted : fitted t l ≡ accepted t l
-  fit-accepted = decided .0
+pub measured : (l : Lent) (room : ℕ) (a : Answer) → Room l room a (tooSmall l room a)
+measured l room a =
+    go
+    (ltb (l .mints / mintWidth) room)
+    (ltb (l .invocations / invocationWidth) (a .invocations))
+    (ltb (l .transfers / transferWidth) (a .transfers))
+    (ltb (l .legs / legWidth) (a .legs))
+    (ltb (l .natives / actionWidth) (a .natives))
+    refl
+    refl
+    refl
+    refl
+    refl
+  where
+    go : (b0 b1 b2 b3 b4 : Bool)
+        → ltb (l .mints / mintWidth) room ≡ b0
+        → ltb (l .invocations / invocationWidth) (a .invocations) ≡ b1
+        → ltb (l .transfers / transferWidth) (a .transfers) ≡ b2
+        → ltb (l .legs / legWidth) (a .legs) ≡ b3
+        → ltb (l .natives / actionWidth) (a .natives) ≡ b4
+        → Room l room a (cond b0 (some 0) (cond b1 (some 1) (cond b2 (some 2) (cond b3 (some 3) (cond b4 (some 4) none)))))
+    go true b1 b2 b3 b4 e0 e1 e2 e3 e4 = first (ltb-true (l .mints / mintWidth) room e0)
+    go false true b2 b3 b4 e0 e1 e2 e3 e4 = behind 1 (omega arith) (ltb-false (l .mints / mintWidth) room e0)
+    go false false true b3 b4 e0 e1 e2 e3 e4 = behind 2 (omega arith) (ltb-false (l .mints / mintWidth) room e0)
+    go false false false true b4 e0 e1 e2 e3 e4 = behind 3 (omega arith) (ltb-false (l .mints / mintWidth) room e0)
+    go false false false false true e0 e1 e2 e3 e4 = behind 4 (omega arith) (ltb-false (l .mints / mintWidth) room e0)
+    go false false false false false e0 e1 e2 e3 e4 =
+        enough (record {
+          mints = ltb-false (l .mints / mintWidth) room e0;
+          invocations = ltb-false (l .invocations / invocationWidth) (a .invocations) e1;
+          transfers = ltb-false (l .transfers / transferWidth) (a .transfers) e2;
+          legs = ltb-false (l .legs / legWidth) (a .legs) e3;
+          natives = ltb-false (l .natives / actionWidth) (a .natives) e4;
+        })
 
-  pub fit-room : Roomy t l
-  fit-room =
-      record {
-        mints = ltb-false (l .mints / mintWidth) (t .room) (decided .1);
-        invocations = ltb-false (l .invocations / invocationWidth) (length (t .invocations)) (decided .2);
-        transfers = ltb-false (l .transfers / transferWidth) (length (t .transfers)) (decided .3);
-        legs = ltb-false (l .legs / legWidth) (length (t .legs)) (decided .4);
-        natives = ltb-false (l .natives / actionWidth) (length (t .natives)) (decided .5);
-      }
+module _ (t : Tables) (l : Lent) where
+  -- the answer of the definition is that of the code
+  pub fit-answer : fitted t l .answer ≡ fits l (t .room) (accepted t l .answer)
+  unfolding fitted fits refused
+  fit-answer = go (tooSmall l (t .room) (accepted t l .answer))
+    where
+      go : (o : Option ℕ) → byRoom (accepted t l) (λ k. refused 8 k l) o .answer ≡ byRoom (accepted t l .answer) (refusal 8) o
+      go none = refl
+      go (some k) = refl
+
+  -- and what is no refusal is the success
+  pub fit-accepted : fitted t l .answer .number ≡ 0 → fitted t l ≡ accepted t l
+  unfolding fitted refused
+  fit-accepted = go (tooSmall l (t .room) (accepted t l .answer))
+    where
+      go : (o : Option ℕ) → byRoom (accepted t l) (λ k. refused 8 k l) o .answer .number ≡ 0
+          → byRoom (accepted t l) (λ k. refused 8 k l) o ≡ accepted t l
+      go none e = refl
+      go (some k) e = absurd (omega arith)

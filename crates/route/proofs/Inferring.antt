@@ -21,7 +21,7 @@ use Rattle.ids.specs.Keys.{Key, zeroKey, keyOf, keyCount}
 use Rattle.ids.specs.Mints.{isMint, mintOf}
 use Rattle.evidence.specs.MintTable.{MintRow, mintIn}
 use Rattle.mints.specs.Bytes.{mintRow, tableBytes, orZero, mintsOf}
-use Rattle.route.specs.Known.{mintAt, Holds}
+use Rattle.route.specs.Known.{knownMint, Holds}
 use Rattle.route.proofs.OrderTable.{flat}
 
 -- the bytes of table 0's rows, one after the other
@@ -82,7 +82,7 @@ module _ {l : List MintRow} (s : Sound l) where
   mints-length κ (suc n) = length-append (mintsOf l κ n) (orZero (mintIn l (κ n))) ∙ rw (mints-length κ n, wide (κ n), suc-mul)
 
   -- each key index has its 32 bytes
-  mint-at : (κ : ℕ → Key) (n i : ℕ) (z : List ℕ) → i < n → mintAt (mintsOf l κ n ++ z) i ≡ orZero (mintIn l (κ i))
+  mint-at : (κ : ℕ → Key) (n i : ℕ) (z : List ℕ) → i < n → knownMint (mintsOf l κ n ++ z) i ≡ orZero (mintIn l (κ i))
   unfolding mintsOf
   mint-at κ zero i z h = absurd (omega arith)
   mint-at κ (suc n) i z h =
@@ -94,11 +94,11 @@ module _ {l : List MintRow} (s : Sound l) where
       (eq-or-lt-of-le (le-of-suc-le-suc h)))
 
 -- bytes behind the mints are zero
-blank-at : (l : List ℕ) (i : ℕ) → length l ≤ i * 32 → i < 256 → mintAt (sets (zeros 8192) 0 l) i ≡ zeroKey
+blank-at : (l : List ℕ) (i : ℕ) → length l ≤ i * 32 → i < 256 → knownMint (sets (zeros 8192) 0 l) i ≡ zeroKey
 unfolding zeroKey
 blank-at l i h k =
     let n : length (sets (zeros 8192) 0 l) ≡ 8192 = length-sets (zeros 8192) 0 l ∙ length-replicate {A = ℕ} 8192 0 in
-    ext-getD 0 (mintAt (sets (zeros 8192) 0 l) i) (zeros 32)
+    ext-getD 0 (knownMint (sets (zeros 8192) 0 l) i) (zeros 32)
     (simp (length-take, length-drop, length-replicate) (omega arith))
     (λ j lt.
     let lt32 : j < 32 = omega (arith, length-take 32 (drop (i * 32) (sets (zeros 8192) 0 l))) in
@@ -117,13 +117,13 @@ holds {l} s ks known few e i h =
     n : length (mintsOf l (keyOf ks) (keyCount ks)) ≡ keyCount ks * 32
     n = mints-length s (keyOf ks) (keyCount ks)
 
-    inside : i < keyCount ks → mintOf (mintAt (sets (zeros 8192) 0 (mintsOf l (keyOf ks) (keyCount ks))) i) ≡ mintIn l (keyOf ks i)
+    inside : i < keyCount ks → mintOf (knownMint (sets (zeros 8192) 0 (mintsOf l (keyOf ks) (keyCount ks))) i) ≡ mintIn l (keyOf ks i)
     inside q =
         rw
         (sets-eq (mintsOf l (keyOf ks) (keyCount ks)) (zeros 8192) 0 (omega (arith, n, length-replicate {A = ℕ} 8192 0)), mint-at s (keyOf ks) (keyCount ks) i (drop (0 + length (mintsOf l (keyOf ks) (keyCount ks))) (zeros 8192)) q)
         (told s (keyOf ks i))
 
-    outside : keyCount ks ≤ i → mintOf (mintAt (sets (zeros 8192) 0 (mintsOf l (keyOf ks) (keyCount ks))) i) ≡ mintIn l (keyOf ks i)
+    outside : keyCount ks ≤ i → mintOf (knownMint (sets (zeros 8192) 0 (mintsOf l (keyOf ks) (keyCount ks))) i) ≡ mintIn l (keyOf ks i)
     outside q =
         rw (blank-at (mintsOf l (keyOf ks) (keyCount ks)) i (omega (arith, n)) h, le-ltb i (keyCount ks) q)
         (ap (λ (o : Option Key). mintOf (orZero o)) (sym (none-zero s)) ∙ told s zeroKey)

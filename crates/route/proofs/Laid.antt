@@ -1,37 +1,35 @@
--- In every table of a call that is not refused the rows stand one after the other, each as wide as its table says, and every byte behind the last is zero.
+-- In every table of a call that is not refused the rows stand one after the other, each as wide as its table says, and every byte behind the last is zero:
+-- rows of one width that are placed over zeros and have room are their bytes one after the other.
 -- Assumes nothing.
 use mathlib.Core.Path.{_≡_, refl, sym, ap, subst, _∙_}
-use mathlib.Core.Bool.{Bool, true, false, cond}
 use mathlib.Core.List.{List, [], _++_, map}
-use mathlib.Core.Option.{Option, none, some}
+use mathlib.Core.Option.{some}
 use Prim.Native.Nat.{ℕ, zero, suc, _*_, _-_, _/_, _≤_}
 use native.Mathlib.Nat.{le-trans, zero-mul, zero-add, mul-le-mul-right, div-mul-le-self}
 use native.Mathlib.Omega.{arith}
-use borrow.Author.Tests.{eqb-false}
-use lib.Dec.{eqb}
 use lib.ListN.{length, getD, drop, length-append, length-map, length-replicate}
 use lib.Seq.{sets-eq, drop-at}
 use Rattle.wire.specs.Zeros.{zeros}
 use Rattle.pack.specs.Sections.{sectionOf}
 use Rattle.pack.specs.View.{viewOf}
 use Rattle.pack.specs.Flatten.{flatten}
-use Rattle.pack.specs.Verdict.{verdict, numberOf, placeOf}
 use Rattle.pack.proofs.Rows.{row-at}
-use Rattle.evidence.specs.MintTable.{Answer}
+use Rattle.evidence.specs.MintTable.{MintAnswer}
 use Rattle.mints.specs.Bytes.{mintRow}
-use Rattle.subtrees.specs.Subtrees.{tab}
+use Rattle.wire.specs.Tab.{tab}
 use Rattle.route.specs.Widths.{mintWidth, invocationWidth, transferWidth, legWidth, actionWidth}
-use Rattle.route.specs.declared.Answer.{Answer as Reply}
+use Rattle.route.specs.declared.Answer.{Answer}
 use Rattle.route.specs.Lay.{rowsOf, written}
 use Rattle.route.specs.Transfers.{transferRows}
 use Rattle.route.specs.Legs.{legRows}
 use Rattle.route.specs.Actions.{actionRows}
-use Rattle.route.specs.Tables.{Tables, positionsOf, instructionsOf, invocationAt, tablesWith, tablesIf, tables}
-use Rattle.route.specs.Route.{Lent, lent, Routed, refused, accepted, fitted, passed, tablesIn, judged, route, Leaves}
+use Rattle.route.specs.Tables.{positionsOf, instructionsOf, invocationAt, tablesWith}
+use Rattle.route.specs.Route.{Lent, lent, Routed, refused, accepted, route, Leaves}
 use Rattle.route.specs.Order.{mintsIn, Succeeds}
 use Rattle.route.specs.Laid.{Laid, AllLaid}
 use Rattle.route.proofs.Widths.{invocations-rowed, transfers-rowed, legs-rowed, natives-rowed}
-use Rattle.route.proofs.Fitting.{fit-accepted, Roomy, fit-room}
+use Rattle.route.proofs.Fitting.{Roomy}
+use Rattle.route.proofs.Ways.{tablesBy, Ways, early, crowded, later, good, tables-by, ways}
 use Rattle.route.proofs.OrderTable.{Rowed, flat, flat-length, placed-flat, rows-written, mint-rowed}
 use Rattle.route.proofs.OrderMints.{made, sized, rows-room}
 use Rattle.route.proofs.Success.{sound}
@@ -76,16 +74,9 @@ module _ (w : ℕ) (l : List (List ℕ)) (n : ℕ) (h : Rowed w l) (whole : leng
       }
 
 module _ (names p : List ℕ) (l : Lent) where
-  -- the tables that go with a mint table
-  abbrev with-mints : Option Answer → Option Tables
-  with-mints m = tablesIf names (sectionOf p 0) (viewOf p .pools) (positionsOf (flatten (viewOf p))) (instructionsOf (flatten (viewOf p))) m
-
-  abbrev all : Answer → Tables
-  all x = tablesWith names (sectionOf p 0) (viewOf p .pools) (positionsOf (flatten (viewOf p))) (instructionsOf (flatten (viewOf p))) x
-
-  accepted-laid : {x : Answer} → mintsIn p ≡ some x → Roomy (all x) l → AllLaid names p l (accepted (all x) l)
-  unfolding accepted tables tablesIf tablesWith
-  accepted-laid {x} q f =
+  accepted-laid : (x : MintAnswer) → mintsIn p ≡ some x → Roomy l (x .room) (accepted (tablesBy names p x) l .answer) → AllLaid names p l (accepted (tablesBy names p x) l)
+  unfolding accepted tablesWith
+  accepted-laid x q f =
       let y = made p q in
       let s = sound p q in
       let ks = sectionOf p 0 in
@@ -94,8 +85,8 @@ module _ (names p : List ℕ) (l : Lent) where
       let xs = instructionsOf (flatten (viewOf p)) in
       let room : length (map mintRow (x .rows)) ≤ l .mints / mintWidth = rw (length-map (x .rows) mintRow) (le-trans (rows-room y) (f .mints)) in
       record {
-        tables = all x;
-        are = ap with-mints q;
+        tables = tablesBy names p x;
+        are = tables-by names p l q;
         mints = laid mintWidth (map mintRow (x .rows)) (l .mints) (mint-rowed (x .rows) (sized p y)) room;
         invocations = laid invocationWidth (tab (invocationAt names ks pools (x .rows) ps xs) 0 (length xs)) (l .invocations) (invocations-rowed names ks pools (x .rows) ps xs) (f .invocations);
         transfers = laid transferWidth (rowsOf (transferRows ks (x .rows)) 0 xs) (l .transfers) (transfers-rowed ks s xs) (f .transfers);
@@ -103,31 +94,19 @@ module _ (names p : List ℕ) (l : Lent) where
         natives = laid actionWidth (rowsOf (actionRows ks (x .rows)) 0 xs) (l .natives) (natives-rowed ks s xs) (f .natives);
       }
 
-  fitted-laid : {x : Answer} → mintsIn p ≡ some x → Succeeds (fitted (all x) l) → AllLaid names p l (fitted (all x) l)
-  fitted-laid {x} q h = subst (AllLaid names p l) (sym (fit-accepted (all x) l h)) (accepted-laid q (fit-room (all x) l h))
-
-  passed-laid : Succeeds (passed (tablesIn names p) l) → AllLaid names p l (passed (tablesIn names p) l)
-  unfolding passed refused tables tablesIf
-  passed-laid = go (mintsIn p) refl
-    where
-      go : (m : Option Answer) → mintsIn p ≡ m → Succeeds (passed (with-mints m) l) → AllLaid names p l (passed (with-mints m) l)
-      go none q h = absurd (omega arith)
-      go (some x) q h = fitted-laid q h
+  laid-by : {r : Routed} → Ways names p l r → Succeeds r → AllLaid names p l r
+  unfolding refused
+  laid-by (early n k h f) e = absurd (omega arith)
+  laid-by (crowded x q h) e = absurd (omega arith)
+  laid-by (later x k q h f) e = absurd (omega arith)
+  laid-by (good x q s f) e = accepted-laid x q f
 
   -- so it is in every call that is not refused
   pub all-laid : Succeeds (route names p l) → AllLaid names p l (route names p l)
-  unfolding route judged refused
-  all-laid = go (eqb (length names) 88) (eqb (numberOf (verdict p)) 0) refl
-    where
-      go : (a b : Bool) → eqb (numberOf (verdict p)) 0 ≡ b
-          → Succeeds (cond a (cond b (passed (tablesIn names p) l) (refused (numberOf (verdict p)) (placeOf (verdict p)) l)) (refused 1 0 l))
-          → AllLaid names p l (cond a (cond b (passed (tablesIn names p) l) (refused (numberOf (verdict p)) (placeOf (verdict p)) l)) (refused 1 0 l))
-      go true true e h = passed-laid h
-      go true false e h = absurd (eqb-false (numberOf (verdict p)) 0 e h)
-      go false b e h = absurd (omega arith)
+  all-laid = laid-by (ways names p l)
 
 -- and in what the contract promises of the lent tables
-pub leaves-laid : {names p t0 t1 t2 t3 t4 : List ℕ} {r : Reply} {o0 o1 o2 o3 o4 : List ℕ} → Leaves names p t0 t1 t2 t3 t4 r o0 o1 o2 o3 o4 → r .number ≡ 0
+pub leaves-laid : {names p t0 t1 t2 t3 t4 : List ℕ} {r : Answer} {o0 o1 o2 o3 o4 : List ℕ} → Leaves names p t0 t1 t2 t3 t4 r o0 o1 o2 o3 o4 → r .number ≡ 0
     → AllLaid names p (lent t0 t1 t2 t3 t4) (record { answer = r; mints = o0; invocations = o1; transfers = o2; legs = o3; natives = o4 })
 leaves-laid {names} {p} {t0} {t1} {t2} {t3} {t4} {r} {o0} {o1} {o2} {o3} {o4} x h =
     let l = lent t0 t1 t2 t3 t4 in

@@ -10,9 +10,10 @@ pub mod Finishing
 pub mod OrderKeys
 pub mod OrderTable
 pub mod OrderMints
-pub mod OrderWays
+pub mod Ways
 pub mod Order
 pub mod OrderCalls
+pub mod Enough
 pub mod Inferring
 pub mod Filling
 pub mod Success
@@ -20,7 +21,9 @@ pub mod Called
 pub mod Claims
 pub mod Widths
 pub mod Laid
+pub mod Opened
 pub mod MarkedCases
 pub mod WorkedCases
 pub mod WorkedLimits
+pub mod Viewed
 pub mod OrderCases

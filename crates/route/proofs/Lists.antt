@@ -1,17 +1,15 @@
--- Lists that a table of numbers makes, and what an array holds after numbers were stored in it.
+-- Lists that a table of numbers makes, and what an array holds after numbers were stored in it: both are known entry by entry.
 -- Assumes nothing.
 use mathlib.Core.Path.{_≡_, refl, sym, ap, _∙_}
-use mathlib.Core.List.{List, [], _∷_, map}
-use Prim.Native.Nat.{ℕ, zero, suc, _+_, _*_, _≤_, _<_}
-use native.Mathlib.Nat.{zero-add, add-zero, suc-mul}
+use mathlib.Core.List.{List, _∷_, map}
+use Prim.Native.Nat.{ℕ, zero, suc, _≤_, _<_}
+use native.Mathlib.Nat.{zero-add}
 use native.Mathlib.Omega.{arith}
-use lib.ListN.{length, getD, take, drop}
-use lib.Seq.{sets, ext-getD, drop-drop}
+use lib.ListN.{length, getD, take}
+use lib.Seq.{sets, ext-getD}
 use Rattle.wire.proofs.Sets.{sets-in}
-use Rattle.pack.specs.Items.{rows}
-use Rattle.subtrees.specs.Subtrees.{tab}
-use Rattle.subtrees.proofs.Arrays.{tab-length, tab-at}
-use Rattle.swaps.specs.Row.{keysFrom}
+use Rattle.wire.specs.Tab.{tab}
+use Rattle.wire.proofs.Tab.{tab-length, tab-at}
 
 pub map-tab : {A B : Type 0} (g : A → B) (f : ℕ → A) (i n : ℕ) → map g (tab f i n) ≡ tab (λ k. g (f k)) i n
 unfolding tab
@@ -39,9 +37,3 @@ array-at a₀ a f n i e h lt =
     ∙ tab-at f 0 0 n i lt
     ∙ ap f (zero-add i)
     )
-
--- the pools of a section, read by row numbers, are its rows
-pub keys-rows : (s : List ℕ) (m i : ℕ) → keysFrom s m i ≡ rows 32 m (drop (i * 32) s)
-unfolding keysFrom rows
-keys-rows s zero i = refl
-keys-rows s (suc m) i = ap (λ l. take 32 (drop (i * 32) s) ∷ l) (keys-rows s m (suc i) ∙ rw (drop-drop 32 (i * 32) s, suc-mul i 32))

@@ -13,8 +13,8 @@ use Rattle.pack.specs.Invocation.{Instruction}
 use Rattle.token.specs.Programs.{isToken}
 use Rattle.token.specs.declared.Moved.{Moved}
 use Rattle.token.specs.declared.Moved.the-variants.{Nothing, FeeUnknown, FeeKnown}
-use Rattle.token.specs.Moved.{valueOf, sourceBy}
-use Rattle.token.specs.Rows.{rowOf, rowsOf}
+use Rattle.token.specs.Moved.{transferValue, sourceBy}
+use Rattle.token.specs.Rows.{transferRow, transferBytes}
 use Rattle.token.proofs.Laws.{moved-value}
 use Rattle.token.proofs.Reading.{read-none}
 use Rattle.route.specs.Widths.{transferWidth}
@@ -36,13 +36,13 @@ no-transfer ks x e =
 
 -- κ gives the key of an index, μ the final mint of a key, mint the one that is handed on
 module _ (κ : ℕ → Key) (μ : Key → Option Key) (i : ℕ) (program : Key) (mint : Option Key) where
-  pub row-counted : (m : Moved) → movedCount m ≡ length (rowIf (λ t. rowOf i program (μ (t .source)) t) (valueOf κ m))
+  pub row-counted : (m : Moved) → movedCount m ≡ length (rowIf (λ t. transferRow i program (μ (t .source)) t) (transferValue κ m))
   row-counted Nothing = refl
   row-counted (FeeUnknown s d a) = refl
   row-counted (FeeKnown s d a f) = refl
 
   pub row-placed : (m : Moved) → mint ≡ μ (κ (sourceBy m)) → (out : List ℕ) (k : ℕ)
-      → sets out (k * transferWidth) (rowsOf i program mint (valueOf κ m)) ≡ placed transferWidth k (rowIf (λ t. rowOf i program (μ (t .source)) t) (valueOf κ m)) out
+      → sets out (k * transferWidth) (transferBytes i program mint (transferValue κ m)) ≡ placed transferWidth k (rowIf (λ t. transferRow i program (μ (t .source)) t) (transferValue κ m)) out
   unfolding placed
   row-placed Nothing h out k = refl
   row-placed (FeeUnknown s d a) h out k = rw h

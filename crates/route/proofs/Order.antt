@@ -1,12 +1,14 @@
--- Order does not matter: two packs with the same evidence, in any order, and what the call leaves of them in table 0.
+-- Order does not matter: two packs with the same evidence, in any order, and what the call leaves of them in table 0. It leaves the rows of the pack's mint
+-- table, and evidence in another order makes a table like it.
 -- Assumes nothing.
 use mathlib.Core.Path.{_≡_, refl, sym, ap, _∙_}
 use mathlib.Core.Logic.{_≢_, _⊎_, _↔_, inl, inr, ⊎-elim}
-use mathlib.Core.List.{List, [], map, List·Memᴰ}
+use mathlib.Core.List.{List, [], _∷_, map, List·Memᴰ}
 use mathlib.Core.Option.{some}
-use Prim.Native.Nat.{ℕ, _*_, _/_, _≤_, _<_}
+use Prim.Native.Nat.{ℕ, _+_, _*_, _/_, _≤_, _<_}
+use native.Mathlib.Nat.{le-trans}
 use native.Mathlib.Omega.{arith}
-use lib.ListN.{length, getD, take, drop, length-map}
+use lib.ListN.{length, length-map}
 use Rattle.ids.specs.Keys.{Key}
 use Rattle.evidence.specs.Evidence.{Free, One}
 use Rattle.evidence.specs.Chains.{Chain}
@@ -14,22 +16,29 @@ use Rattle.evidence.specs.Ascending.{Ascending}
 use Rattle.evidence.proofs.Ascending.{ascending-once}
 use Rattle.evidence.specs.Independence.{Apart, Unjoined}
 use Rattle.evidence.proofs.Independence.{unjoined-apart}
-use Rattle.evidence.specs.MintTable.{Answer, rowAccounts}
-use Rattle.evidence.proofs.Order.{row-right, row-reached, row-order, row-kept, row-recorded, row-filled, row-sure, Alike}
+use Rattle.evidence.specs.MintTable.{MintAnswer, rowAccounts}
+use Rattle.evidence.proofs.Order.{row-right, row-reached, row-order, row-kept, row-recorded, row-filled, Alike}
 use Rattle.mints.specs.Bytes.{mintRow}
 use Rattle.pack.specs.Items.{rows}
-use Rattle.pack.proofs.Rows.{row-at}
+use Rattle.pack.specs.Invocation.{Position, Invocation}
+use Rattle.pack.specs.View.{viewOf}
+use Rattle.pack.specs.Flatten.{flatten}
+use Rattle.wire.specs.Tab.{tab}
+use Rattle.subtrees.specs.Subtrees.{testsOf}
+use Rattle.wire.proofs.Tab.{tab-length}
+use Rattle.subtrees.proofs.Claims.{tests-none, tests-bound}
 use Rattle.route.specs.Widths.{mintWidth}
 use Rattle.route.specs.Lay.{written}
+use Rattle.route.specs.Tables.{positionsOf, instructionsOf, tablesWith}
 use Rattle.route.specs.Route.{Lent, Routed, refused, accepted, route}
 use Rattle.route.specs.Order.{evidenceIn, plainsIn, mintsIn, SameEvidence, mintsLeft, Succeeds, InputTaken, NoRoom, FilledWith, FilledByChains}
 use Rattle.route.proofs.OrderTable.{mints-rows, mints-written}
 use Rattle.route.proofs.OrderMints.{made, sized, rows-room, tables-alike}
-use Rattle.route.proofs.OrderWays.{FewTests, Ways, early, crowded, later, good, ways}
+use Rattle.route.proofs.Ways.{Ways, early, crowded, later, good, ways}
 
 -- table 0 after a call that is not refused: the rows of the pack's mint table, and they are read back from the bytes
 pub record Left (p : List ℕ) (l : Lent) (r : Routed) : Type 0 where
-  pub table : Answer
+  pub table : MintAnswer
   pub is : mintsIn p ≡ some table
   pub count : r .answer .mints ≡ length (table .rows)
   pub bytes : r .mints ≡ written mintWidth (map mintRow (table .rows)) (l .mints)
@@ -38,92 +47,101 @@ pub record Left (p : List ℕ) (l : Lent) (r : Routed) : Type 0 where
 
 -- a call whose input is taken: there is a mint table, and want of room in table 0 is its alone
 record Judged (p : List ℕ) (l : Lent) (r : Routed) : Type 0 where
-  table : Answer
+  table : MintAnswer
   is : mintsIn p ≡ some table
-  short : NoRoom r → l .mints / mintWidth < table .room
-  full : l .mints / mintWidth < table .room → NoRoom r
+  short : NoRoom (r .answer) → l .mints / mintWidth < table .room
+  full : l .mints / mintWidth < table .room → NoRoom (r .answer)
 
-module _ {p : List ℕ} {l : Lent} where
-  left-by : {r : Routed} → Ways p l r → Succeeds r → Left p l r
-  unfolding refused accepted
+-- k tests for n invocations: none for none, else at most 2n - 2
+abbrev pub FewTests : ℕ → ℕ → Type 0
+FewTests n k = (n ≡ 0 → k ≡ 0) × (0 < n → k + 2 ≤ 2 * n)
+
+-- the tests of positions are few
+position-tests : (ps : List Position) → FewTests (length ps) (testsOf ps)
+position-tests [] = (λ e. tests-none, λ h. absurd (omega arith))
+position-tests (x ∷ ps) = (λ e. absurd (omega arith), λ h. tests-bound (x ∷ ps) h)
+
+-- so they are beside a row for each invocation
+invocation-tests : (f : ℕ → List ℕ) (vs : List Invocation) → FewTests (length (tab f 0 (length (instructionsOf vs)))) (testsOf (positionsOf vs))
+invocation-tests f vs =
+    let n : length (tab f 0 (length (instructionsOf vs))) ≡ length (positionsOf vs) = tab-length f 0 (length (instructionsOf vs)) ∙ length-map vs (λ v. v .instruction) ∙ sym (length-map vs (λ v. v .position)) in
+    rw n (position-tests (positionsOf vs))
+
+-- way by way
+module _ {names p : List ℕ} {l : Lent} where
+  left-by : {r : Routed} → Ways names p l r → Succeeds r → Left p l r
+  unfolding refused accepted tablesWith
   left-by (early n k h f) e = absurd (omega arith)
-  left-by (crowded q h) e = absurd (omega arith)
-  left-by (later k q h f) e = absurd (omega arith)
-  left-by (good {x} t q h m f c) e =
-      let s = sized p (made p q) in
-      let room : length (x .rows) ≤ l .mints / mintWidth = omega (arith, rows-room (made p q)) in
-      let k : length (t .mints) ≡ length (x .rows) = rw m (length-map (x .rows) mintRow) in
+  left-by (crowded x q h) e = absurd (omega arith)
+  left-by (later x k q h f) e = absurd (omega arith)
+  left-by (good x q s f) e =
+      let w = sized p (made p q) in
+      let room : length (x .rows) ≤ l .mints / mintWidth = le-trans (rows-room (made p q)) (f .mints) in
+      let k : length (map mintRow (x .rows)) ≡ length (x .rows) = length-map (x .rows) mintRow in
       record {
         table = x;
         is = q;
         count = k;
-        bytes = rw m refl;
-        items = rw (k, m) (mints-rows (x .rows) (l .mints) s room);
-        read = rw (k, m) (mints-written (x .rows) (l .mints) s room);
+        bytes = refl;
+        items = rw k (mints-rows (x .rows) (l .mints) w room);
+        read = rw k (mints-written (x .rows) (l .mints) w room);
       }
 
-  judged-by : {r : Routed} → Ways p l r → InputTaken (r .answer) → Judged p l r
+  judged-by : {r : Routed} → Ways names p l r → InputTaken (r .answer) → Judged p l r
   unfolding refused accepted
   judged-by (early n k h f) e = absurd (e n h (omega arith) refl)
-  judged-by (crowded {x} q h) e = record { table = x; is = q; short = λ s. h; full = λ s. record { number = refl; place = refl } }
-  judged-by (later {x} k q h f) e = record { table = x; is = q; short = λ s. absurd (omega (arith, s .place)); full = λ s. absurd (omega arith) }
-  judged-by (good {x} t q h m f c) e = record { table = x; is = q; short = λ s. absurd (omega (arith, s .number)); full = λ s. absurd (omega arith) }
+  judged-by (crowded x q h) e = record { table = x; is = q; short = λ s. h; full = λ s. (refl, refl) }
+  judged-by (later x k q h f) e = record { table = x; is = q; short = λ s. absurd (omega (arith, s .1)); full = λ s. absurd (omega arith) }
+  judged-by (good x q s f) e = record { table = x; is = q; short = λ s. absurd (omega (arith, s .0)); full = λ s. absurd (omega (arith, f .mints)) }
 
-  taken-by : {r : Routed} → Ways p l r → InputTaken (r .answer) ↔ ((r .answer .number ≡ 0) ⊎ (r .answer .number ≡ 8))
+  taken-by : {r : Routed} → Ways names p l r → InputTaken (r .answer) ↔ ((r .answer .number ≡ 0) ⊎ (r .answer .number ≡ 8))
   unfolding refused accepted
   taken-by (early n k h f) = (λ e. absurd (e n h (omega arith) refl), λ s. absurd (⊎-elim (λ e. omega arith) (λ e. omega arith) s))
-  taken-by (crowded q h) = (λ e. inr refl, λ s i a b e. omega arith)
-  taken-by (later k q h f) = (λ e. inr refl, λ s i a b e. omega arith)
-  taken-by (good t q h m f c) = (λ e. inl refl, λ s i a b e. omega arith)
+  taken-by (crowded x q h) = (λ e. inr refl, λ s i a b e. omega arith)
+  taken-by (later x k q h f) = (λ e. inr refl, λ s i a b e. omega arith)
+  taken-by (good x q s f) = (λ e. inl refl, λ s i a b e. omega arith)
 
-  seven-by : {r : Routed} → Ways p l r → r .answer .number ≢ 7
+  seven-by : {r : Routed} → Ways names p l r → r .answer .number ≢ 7
   unfolding refused accepted
   seven-by (early n k h f) e = omega arith
-  seven-by (crowded q h) e = omega arith
-  seven-by (later k q h f) e = omega arith
-  seven-by (good t q h m f c) e = omega arith
+  seven-by (crowded x q h) e = omega arith
+  seven-by (later x k q h f) e = omega arith
+  seven-by (good x q s f) e = omega arith
 
-  passes-by : {r : Routed} → Ways p l r → r .answer .passes ≤ 256
-  unfolding refused accepted
+  passes-by : {r : Routed} → Ways names p l r → r .answer .passes ≤ 256
+  unfolding refused accepted tablesWith
   passes-by (early n k h f) = omega arith
-  passes-by (crowded q h) = omega arith
-  passes-by (later k q h f) = omega arith
-  passes-by (good t q h m f c) = f
+  passes-by (crowded x q h) = omega arith
+  passes-by (later x k q h f) = omega arith
+  passes-by (good x q s f) = s
 
-  tests-by : {r : Routed} → Ways p l r → FewTests (r .answer .invocations) (r .answer .tests)
-  unfolding refused accepted
+  tests-by : {r : Routed} → Ways names p l r → FewTests (r .answer .invocations) (r .answer .tests)
+  unfolding refused accepted tablesWith
   tests-by (early n k h f) = (λ e. refl, λ h. absurd (omega arith))
-  tests-by (crowded q h) = (λ e. refl, λ h. absurd (omega arith))
-  tests-by (later k q h f) = (λ e. refl, λ h. absurd (omega arith))
-  tests-by (good t q h m f c) = c
+  tests-by (crowded x q h) = (λ e. refl, λ h. absurd (omega arith))
+  tests-by (later x k q h f) = (λ e. refl, λ h. absurd (omega arith))
+  tests-by (good x q s f) = invocation-tests _ (flatten (viewOf p))
 
 module _ (names p : List ℕ) (l : Lent) where
   -- with at most 256 keys the passes suffice: no call is refused with 7
   pub never-seven : route names p l .answer .number ≢ 7
-  never-seven = seven-by (ways p l names)
+  never-seven = seven-by (ways names p l)
 
   -- and there are at most 256 of them
   pub few-passes : route names p l .answer .passes ≤ 256
-  few-passes = passes-by (ways p l names)
+  few-passes = passes-by (ways names p l)
 
   -- the tests are 0 where table 1 has no row, and at most 2n - 2 where it has n
   pub few-tests : FewTests (route names p l .answer .invocations) (route names p l .answer .tests)
-  few-tests = tests-by (ways p l names)
+  few-tests = tests-by (ways names p l)
 
   -- for `route`, to meet none of the refusals 1 to 7 is to be refused with 8 or not at all
   pub taken-number : InputTaken (route names p l .answer) ↔ ((route names p l .answer .number ≡ 0) ⊎ (route names p l .answer .number ≡ 8))
-  taken-number = taken-by (ways p l names)
+  taken-number = taken-by (ways names p l)
 
   -- what a call that is not refused leaves in table 0
   pub left : Succeeds (route names p l) → Left p l (route names p l)
-  left e = left-by (ways p l names) e
-
-  -- row k of them stands in the bytes from k * mintWidth on
-  pub left-row : (e : Succeeds (route names p l)) (k : ℕ) → k < route names p l .answer .mints
-      → take mintWidth (drop (k * mintWidth) (route names p l .mints)) ≡ getD (map mintRow (left e .table .rows)) k []
-  left-row e k h =
-      let t = left e in
-      sym (row-at mintWidth (route names p l .answer .mints) (route names p l .mints) k [] h) ∙ ap (λ (x : List (List ℕ)). getD x k []) (t .items)
+  left e = left-by (ways names p l) e
 
   -- its rows ascend by account
   pub left-ascends : Succeeds (route names p l) → Ascending (λ r. r .0) (mintsLeft (route names p l))
@@ -164,11 +182,6 @@ module _ (names p : List ℕ) (l : Lent) where
       filled : ((m : Key) × (n : ℕ) × List·Memᴰ (a, m, n) (mintsLeft (route names p l))) → (m : Key) × FilledWith (mintsLeft (route names p l)) a m
       filled (m, n, i) = (m, record { mark = n; marked = left-filled e i .1 f; row = i })
 
-  -- with no chains from two different mints to one account, every account filled in has mark 1
-  pub left-sure : {a m : Key} {n : ℕ} → Succeeds (route names p l) → Apart (evidenceIn p) (plainsIn p) → Free (evidenceIn p) a
-      → List·Memᴰ (a, m, n) (mintsLeft (route names p l)) → n ≡ 1
-  left-sure e h f i = let t = left e in row-sure (made p (t .is)) h f (rw (t .read) at i)
-
 -- two packs with the same evidence, neither refused
 module _ (names : List ℕ) (l : Lent) {p q : List ℕ} (h : SameEvidence p q) (a : Succeeds (route names p l)) (b : Succeeds (route names q l)) where
   alike-left : Alike (evidenceIn p) (plainsIn p) (left names p l a .table) (left names q l b .table)
@@ -196,9 +209,9 @@ module _ (names : List ℕ) (l : Lent) {p q : List ℕ} (h : SameEvidence p q) (
 
 -- (iv) two packs with the same evidence, neither meeting refusals 1 to 7: want of room in table 0 is refused alike
 pub same-room : (names : List ℕ) (l : Lent) {p q : List ℕ} → SameEvidence p q → InputTaken (route names p l .answer) → InputTaken (route names q l .answer)
-    → NoRoom (route names p l) ↔ NoRoom (route names q l)
+    → NoRoom (route names p l .answer) ↔ NoRoom (route names q l .answer)
 same-room names l {p} {q} h a b =
-    let x = judged-by (ways p l names) a in
-    let y = judged-by (ways q l names) b in
+    let x = judged-by (ways names p l) a in
+    let y = judged-by (ways names q l) b in
     let e : x .table .room ≡ y .table .room = (tables-alike h (x .is) (y .is)) .room in
     (λ s. y .full (rw e at (x .short s)), λ s. x .full (rw (← e) at (y .short s)))

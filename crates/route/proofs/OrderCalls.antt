@@ -1,4 +1,5 @@
--- Order does not matter, over calls: of the answers and the bytes that the contract `Leaves` promises, for a pack and for two with the same evidence.
+-- Order does not matter, over calls: of the answers and the bytes that the contract `Leaves` promises, for a pack and for two with the same evidence. The
+-- contract equates them with those of `route`, for which it is shown.
 -- Assumes nothing.
 use mathlib.Core.Path.{_≡_, sym, subst, _∙_}
 use mathlib.Core.Logic.{_↔_}
@@ -13,14 +14,10 @@ use Rattle.evidence.specs.Independence.{Apart, Unjoined}
 use Rattle.evidence.proofs.Independence.{same-agree, same-chain, unjoined-apart}
 use Rattle.evidence.specs.MintTable.{rowAccounts}
 use Rattle.route.specs.declared.Answer.{Answer}
-use Rattle.route.specs.Route.{Lent, lent, Routed, route, Leaves}
+use Rattle.route.specs.Route.{Lent, lent, route, Leaves}
 use Rattle.route.specs.Order.{evidenceIn, plainsIn, SameEvidence, mintsRead, InputTaken, NoRoom, FilledByChains}
 use Rattle.route.proofs.OrderMints.{same-evidence, same-plains}
 use Rattle.route.proofs.Order.{filled-in, same-accounts, same-count, same-recorded, same-bytes, same-room}
-
--- refused for want of room in table 0
-abbrev pub Crowded : Answer → Type 0
-Crowded r = (r .number ≡ 8) × (r .place ≡ 0)
 
 -- one call, not refused
 module _ {names p t0 t1 t2 t3 t4 : List ℕ} {r : Answer} {o0 o1 o2 o3 o4 : List ℕ} (x : Leaves names p t0 t1 t2 t3 t4 r o0 o1 o2 o3 o4) (e : r .number ≡ 0) where
@@ -30,30 +27,33 @@ module _ {names p t0 t1 t2 t3 t4 : List ℕ} {r : Answer} {o0 o1 o2 o3 o4 : List
 
 -- two calls with the same names, tables of the same five lengths, and packs with the same evidence
 module _ {names p q t0 t1 t2 t3 t4 u0 u1 u2 u3 u4 : List ℕ} {r r′ : Answer} {o0 o1 o2 o3 o4 o0′ o1′ o2′ o3′ o4′ : List ℕ} (x : Leaves names p t0 t1 t2 t3 t4 r o0 o1 o2 o3 o4) (y : Leaves names q u0 u1 u2 u3 u4 r′ o0′ o1′ o2′ o3′ o4′) (k : lent t0 t1 t2 t3 t4 ≡ lent u0 u1 u2 u3 u4) (h : SameEvidence p q) where
-  answer-right : r′ ≡ route names q (lent t0 t1 t2 t3 t4) .answer
+  abbrev here : Lent
+  here = lent t0 t1 t2 t3 t4
+
+  answer-right : r′ ≡ route names q here .answer
   answer-right = subst (λ (l : Lent). r′ ≡ route names q l .answer) (sym k) (y .answer)
 
-  mints-right : o0′ ≡ route names q (lent t0 t1 t2 t3 t4) .mints
+  mints-right : o0′ ≡ route names q here .mints
   mints-right = subst (λ (l : Lent). o0′ ≡ route names q l .mints) (sym k) (y .mints)
 
   -- neither of them refused
   module _ (a : r .number ≡ 0) (b : r′ .number ≡ 0) where
-    first : route names p (lent t0 t1 t2 t3 t4) .answer .number ≡ 0
+    first : route names p here .answer .number ≡ 0
     first = rw (x .answer) at a
 
-    second : route names q (lent t0 t1 t2 t3 t4) .answer .number ≡ 0
+    second : route names q here .answer .number ≡ 0
     second = rw answer-right at b
 
     -- (i) the same accounts, in the same rows
     pub same-table-count : r .mints ≡ r′ .mints
-    same-table-count = rw (x .answer, answer-right) (same-count names (lent t0 t1 t2 t3 t4) h first second)
+    same-table-count = rw (x .answer, answer-right) (same-count names here h first second)
 
     pub same-table-accounts : rowAccounts (mintsRead (r .mints) o0) ≡ rowAccounts (mintsRead (r′ .mints) o0′)
-    same-table-accounts = rw (x .answer, x .mints, answer-right, mints-right) (same-accounts names (lent t0 t1 t2 t3 t4) h first second)
+    same-table-accounts = rw (x .answer, x .mints, answer-right, mints-right) (same-accounts names here h first second)
 
     -- one recorded mint is in both, with mark 0
     pub same-table-recorded : {c m : Key} → One (evidenceIn p) c m → List·Memᴰ (c, m, 0) (mintsRead (r .mints) o0) × List·Memᴰ (c, m, 0) (mintsRead (r′ .mints) o0′)
-    same-table-recorded o = rw (x .answer, x .mints, answer-right, mints-right) (same-recorded names (lent t0 t1 t2 t3 t4) h first second o)
+    same-table-recorded o = rw (x .answer, x .mints, answer-right, mints-right) (same-recorded names here h first second o)
 
     -- (ii) in both tables an account with no recorded mint is filled in exactly when a chain of the first pack reaches it, with the mint at the start of one
     pub same-table-filled-in : {c : Key} → Free (evidenceIn p) c → FilledByChains p (mintsRead (r .mints) o0) c × FilledByChains p (mintsRead (r′ .mints) o0′) c
@@ -69,17 +69,12 @@ module _ {names p q t0 t1 t2 t3 t4 u0 u1 u2 u3 u4 : List ℕ} {r r′ : Answer} 
 
     -- (iii) no account reached from two different recorded mints: the two tables are equal, byte for byte
     pub same-table : Apart (evidenceIn p) (plainsIn p) → o0 ≡ o0′
-    same-table d = x .mints ∙ same-bytes names (lent t0 t1 t2 t3 t4) h first second d ∙ sym mints-right
+    same-table d = x .mints ∙ same-bytes names here h first second d ∙ sym mints-right
 
     -- so they are where no chain joins two accounts recorded with different mints
     pub same-table-unjoined : Unjoined (evidenceIn p) (plainsIn p) → o0 ≡ o0′
     same-table-unjoined d = same-table (unjoined-apart d)
 
   -- (iv) neither meeting refusals 1 to 7: for want of room in table 0 both are refused, or neither
-  pub same-table-room : InputTaken r → InputTaken r′ → Crowded r ↔ Crowded r′
-  same-table-room a b =
-      let s = same-room names (lent t0 t1 t2 t3 t4) h (rw (x .answer) at a) (rw answer-right at b) in
-      rw (x .answer, answer-right) (λ c. pair (s .0 (record { number = c .0; place = c .1 })), λ c. pair (s .1 (record { number = c .0; place = c .1 })))
-    where
-      pair : {c : Routed} → NoRoom c → Crowded (c .answer)
-      pair n = (n .number, n .place)
+  pub same-table-room : InputTaken r → InputTaken r′ → NoRoom r ↔ NoRoom r′
+  same-table-room a b = rw (x .answer, answer-right) (same-room names here h (rw (x .answer) at a) (rw answer-right at b))

@@ -1,51 +1,18 @@
--- What order does and does not decide, in two small pairs of packs: the premise `SameEvidence` is met, and the proviso of `same-bytes` is needed.
+-- What order does and does not decide, in two small pairs of packs: the premise `SameEvidence` is met, and the proviso of `same-bytes` is needed. Antt computes
+-- what the calls leave.
 -- Assumes nothing.
 use mathlib.Core.Path.{_≡_, refl, sym, ap, ap₂, _∙_}
 use mathlib.Core.Logic.{_≢_}
-use mathlib.Core.List.{List, [], _∷_, flatMap, List·Memᴰ·eq-of-singleton, List·Permᴰ·swap, Permᴰ·refl}
+use mathlib.Core.List.{List, [], _∷_, List·Memᴰ·eq-of-singleton, List·Permᴰ·swap, Permᴰ·refl}
 use Prim.Native.Nat.{ℕ}
 use native.Mathlib.Omega.{arith}
 use lib.ListN.{getD}
-use Rattle.wire.specs.Le.{le, leBytes}
 use Rattle.wire.specs.Same.{same}
-use Rattle.ids.specs.Keys.{Key, zeroKey}
-use Rattle.ids.specs.Ids.{ids}
-use Rattle.ids.specs.Which.{ofNumber, rowFrom, which, programAt}
-use Rattle.pack.specs.Invocation.{instructionAt, Instruction}
-use Rattle.pack.specs.Sections.{mark, marked, startOf, ordered, hasSection, sectionOf}
-use Rattle.pack.specs.Items.{rows, rowsFill, keysFill, itemEnd, outersFrom, outersFill, heightAt, groupsFrom, groupsFill}
-use Rattle.pack.specs.View.{keysIn, balancesIn, outerIn, groupsIn, viewOf}
-use Rattle.pack.specs.Flatten.{inside, flattenFrom, flatten}
-use Rattle.pack.specs.Verdict.{verdict}
-use Rattle.token.specs.Programs.{isToken, isToken2022}
-use Rattle.token.specs.Tokens.{initialises, plainTransfer, checkedTransfer, feeTransfer}
-use Rattle.token.specs.Records.{bothEnds, records, plain}
-use Rattle.token.specs.Transfers.{plainly, checked, transfer}
-use Rattle.natives.specs.Natives.{isSystem, funds, syncs, closes, asked, counted, nativeAction}
-use Rattle.swaps.specs.Leg.{valued}
-use Rattle.swaps.specs.Swap.{byProgram, swap}
-use Rattle.evidence.specs.Keys.{ltKey}
-use Rattle.evidence.specs.Gather.{gather}
-use Rattle.evidence.specs.Table.{lookup}
-use Rattle.evidence.specs.Evidence.{put, note, noteAll, recorded}
-use Rattle.evidence.specs.Passes.{fill, spread, step, pass}
-use Rattle.evidence.specs.Run.{counted as passCounted, run}
-use Rattle.evidence.specs.Infer.{runFrom, infer}
-use Rattle.evidence.specs.Sorted.{insert, sort}
-use Rattle.evidence.specs.Final.{clean, final}
-use Rattle.evidence.specs.Marks.{absent, differ, opposes, opposed, markOf}
-use Rattle.evidence.specs.MintTable.{mintTable, finish, mints, mintIn, MintRow}
-use Rattle.mints.specs.Inference.{balanceSays, says, moves, evidenceOf, transfersOf, inferred}
-use Rattle.subtrees.specs.Descendant.{higher, inners, descendant}
-use Rattle.subtrees.specs.Blocks.{firstNot, anyIn, countIn, sumIn, atop, testsAt}
-use Rattle.subtrees.specs.Subtrees.{tab, place, within}
-use Rattle.route.specs.Lay.{rowsOf, placed}
-use Rattle.route.specs.Row.{flagged, invocationRow}
-use Rattle.route.specs.Transfers.{transferOf, transferRows}
-use Rattle.route.specs.Legs.{legOf, legRows}
-use Rattle.route.specs.Actions.{actionOf, actionRows}
-use Rattle.route.specs.Tables.{invocationAt, tablesWith, tablesIf, tables}
-use Rattle.route.specs.Route.{accepted, fitted, passed, judged, route}
+use Rattle.ids.specs.Keys.{Key}
+use Rattle.pack.specs.Invocation.{Instruction}
+use Rattle.evidence.specs.MintTable.{mints, MintRow}
+use Rattle.mints.specs.Inference.{says}
+use Rattle.route.specs.Route.{route}
 use Rattle.route.specs.MarkedCases.{key, keysFor, saying, pays, meeting, A, B, C, X, Y}
 use Rattle.ids.specs.declared.Id.the-variants.{SplToken}
 use Rattle.evidence.specs.Chains.{Chain, start, along}
@@ -53,17 +20,18 @@ use Rattle.evidence.specs.Independence.{Apart}
 use Rattle.route.specs.Order.{evidenceIn, plainsIn, SameEvidence, mintsRead, mintsLeft, Succeeds}
 use Rattle.route.proofs.Order.{same-count, same-bytes}
 use Rattle.route.specs.Packing.{packOf}
-use Rattle.route.proofs.MarkedCases.{names, room}
+use Rattle.route.specs.WorkedForm.{names, workedRoom}
+use Rattle.route.proofs.Opened.{opened}
 
 -- two packs with the same evidence, neither of them refused, and the rows and passes that each leaves
 pub record Pair (p q : List ℕ) (left left′ : List MintRow) (passes passes′ : ℕ) : Type 0 where
   pub same : SameEvidence p q
-  pub first : Succeeds (route names p room)
-  pub second : Succeeds (route names q room)
-  pub rows-first : mintsLeft (route names p room) ≡ left
-  pub rows-second : mintsLeft (route names q room) ≡ left′
-  pub passes-first : route names p room .answer .passes ≡ passes
-  pub passes-second : route names q room .answer .passes ≡ passes′
+  pub first : Succeeds (route names p workedRoom)
+  pub second : Succeeds (route names q workedRoom)
+  pub rows-first : mintsLeft (route names p workedRoom) ≡ left
+  pub rows-second : mintsLeft (route names q workedRoom) ≡ left′
+  pub passes-first : route names p workedRoom .answer .passes ≡ passes
+  pub passes-second : route names q workedRoom .answer .passes ≡ passes′
 
 -- case f of the marked cases, and f reversed: A is X and B is Y, and both pay C
 abbrev pub met : List ℕ
@@ -86,7 +54,7 @@ led-reversed = line (pays 1 2 ∷ pays 0 1 ∷ [])
 computed : Pair met met-reversed ((A, X, 0) ∷ (B, Y, 0) ∷ (C, X, 2) ∷ []) ((A, X, 0) ∷ (B, Y, 0) ∷ (C, Y, 2) ∷ []) 2 2
     × Pair led led-reversed ((A, X, 0) ∷ (B, X, 1) ∷ (C, X, 1) ∷ []) ((A, X, 0) ∷ (B, X, 1) ∷ (C, X, 1) ∷ []) 2 3
     × (evidenceIn led ≡ (A, X) ∷ [])
-unfolding key names packOf flatMap le leBytes same zeroKey ids ofNumber rowFrom which programAt instructionAt mark marked startOf ordered hasSection sectionOf rows rowsFill keysFill itemEnd outersFrom outersFill heightAt groupsFrom groupsFill keysIn balancesIn outerIn groupsIn viewOf inside flattenFrom flatten verdict isToken isToken2022 initialises plainTransfer checkedTransfer feeTransfer bothEnds records plain plainly checked transfer isSystem funds syncs closes asked counted nativeAction valued byProgram swap ltKey gather lookup put note noteAll recorded fill spread step pass passCounted run runFrom infer insert sort clean final absent differ opposes opposed markOf mintTable finish mints mintIn balanceSays says moves evidenceOf transfersOf inferred higher inners descendant firstNot anyIn countIn sumIn atop testsAt tab place within rowsOf placed flagged invocationRow transferOf transferRows legOf legRows actionOf actionRows invocationAt tablesWith tablesIf tables accepted fitted passed judged route
+unfolding opened key names workedRoom packOf
 computed = (
   record {
     same = record { keys = refl; balances = Permᴰ·refl _; invocations = List·Permᴰ·swap refl refl };
@@ -118,17 +86,17 @@ pub led-pair : Pair led led-reversed ((A, X, 0) ∷ (B, X, 1) ∷ (C, X, 1) ∷ 
 led-pair = computed .1
 
 -- so the tables of the first pair differ in their bytes
-pub met-differs : route names met room .mints ≢ route names met-reversed room .mints
+pub met-differs : route names met workedRoom .mints ≢ route names met-reversed workedRoom .mints
 unfolding key
 met-differs e =
-    let c = same-count names room (met-pair .same) (met-pair .first) (met-pair .second) in
+    let c = same-count names workedRoom (met-pair .same) (met-pair .first) (met-pair .second) in
     let q = sym (met-pair .rows-first) ∙ ap₂ mintsRead c e ∙ met-pair .rows-second in
     let b : _≡_ {A = ℕ} 9 10 = ap (λ (l : List MintRow). getD (getD l 2 (A, A, 0) .1) 0 0) q in
     omega (arith, b)
 
 -- because C is reached from two recorded mints: the proviso of `same-bytes` cannot be left out
 pub met-joined : ¬ Apart (evidenceIn met) (plainsIn met)
-met-joined d = met-differs (same-bytes names room (met-pair .same) (met-pair .first) (met-pair .second) d)
+met-joined d = met-differs (same-bytes names workedRoom (met-pair .same) (met-pair .first) (met-pair .second) d)
 
 -- in the second pair every chain starts at A, so the proviso holds
 led-mint : {a m : Key} → Chain (evidenceIn led) (plainsIn led) m a → m ≡ X
@@ -139,8 +107,8 @@ pub led-apart : Apart (evidenceIn led) (plainsIn led)
 led-apart = record { apart = λ f c d. led-mint c ∙ sym (led-mint d) }
 
 -- and the tables are equal byte for byte, though the packs are not the same
-pub led-same : (route names led room .mints ≡ route names led-reversed room .mints) × (led ≢ led-reversed)
+pub led-same : (route names led workedRoom .mints ≡ route names led-reversed workedRoom .mints) × (led ≢ led-reversed)
 led-same = (
-  same-bytes names room (led-pair .same) (led-pair .first) (led-pair .second) led-apart,
-  λ e. let n : _≡_ {A = ℕ} 2 3 = sym (led-pair .passes-first) ∙ ap (λ (p : List ℕ). route names p room .answer .passes) e ∙ led-pair .passes-second in omega (arith, n),
+  same-bytes names workedRoom (led-pair .same) (led-pair .first) (led-pair .second) led-apart,
+  λ e. let n : _≡_ {A = ℕ} 2 3 = sym (led-pair .passes-first) ∙ ap (λ (p : List ℕ). route names p workedRoom .answer .passes) e ∙ led-pair .passes-second in omega (arith, n),
 )

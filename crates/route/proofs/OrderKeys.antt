@@ -1,4 +1,5 @@
--- What evidence and transfers are made of: keys of the key section, the zero key, and mints of balance rows.
+-- What evidence and transfers are made of: keys of the key section, the zero key, and mints of balance rows. Every account is looked up by its index, so what
+-- holds of those keys holds of all of them.
 -- Assumes nothing.
 use mathlib.Core.Path.{_≡_, refl, sym, ap, subst}
 use mathlib.Core.Logic.{_≢_, ⊎-elim}
@@ -22,7 +23,7 @@ use Rattle.evidence.specs.Gather.{gather}
 use Rattle.evidence.proofs.Gather.{gather-mem}
 use Rattle.evidence.proofs.Bound.{Among}
 use Rattle.mints.specs.Inference.{balanceSays, says, moves, evidenceOf, transfersOf}
-use Rattle.subtrees.specs.Subtrees.{tab}
+use Rattle.wire.specs.Tab.{tab}
 
 -- a member of a list that a test lets stand
 if-mem : {A : Type 0} {x : A} {l : List A} (b : Bool) → List·Memᴰ x (cond b l []) → List·Memᴰ x l

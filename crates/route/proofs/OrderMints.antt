@@ -1,4 +1,5 @@
--- The mint table of a pack: there always is one, its keys have 32 bytes, and it does not depend on the order of the evidence.
+-- The mint table of a pack: there always is one, since at most 256 keys can be filled in; its keys have 32 bytes, as those that a chain runs through have;
+-- and it is the same for evidence in another order, since the members are.
 -- Assumes nothing.
 use mathlib.Core.Path.{_≡_, subst}
 use mathlib.Core.List.{List, List·Memᴰ, List·Memᴰ·head, List·Memᴰ·tail, List·Memᴰ·not-nil, Memᴰ·of-map, Memᴰ·cast}
@@ -14,7 +15,7 @@ use Rattle.ids.specs.Which.{programAt}
 use Rattle.pack.specs.Sections.{sectionOf}
 use Rattle.pack.specs.Items.{rows}
 use Rattle.pack.specs.View.{balancesIn, viewOf}
-use Rattle.pack.specs.Verdict.{verdict, numberOf}
+use Rattle.pack.specs.Verdict.{verdict, refusalNumber}
 use Rattle.pack.proofs.Sizes.{keys-length}
 use Rattle.pack.proofs.Good.{passed}
 use Rattle.evidence.specs.Table.{SameMembers}
@@ -26,27 +27,27 @@ use Rattle.evidence.proofs.Infer.{settled-distinct}
 use Rattle.evidence.proofs.Sorted.{sorted-distinct}
 use Rattle.evidence.proofs.Final.{final-sorted, final-gives}
 use Rattle.evidence.proofs.Gather.{gather-same, append-same}
-use Rattle.evidence.specs.MintTable.{Answer, mintTable}
+use Rattle.evidence.specs.MintTable.{MintAnswer, mintTable}
 use Rattle.evidence.proofs.Order.{Made, mints-made, answered-256, row-right, Alike, alike}
 use Rattle.mints.specs.Inference.{balanceSays, says, moves, evidenceOf, transfersOf, inferred}
-use Rattle.subtrees.proofs.Arrays.{tab-length}
+use Rattle.wire.proofs.Tab.{tab-length}
 use Rattle.route.specs.Order.{instructionsIn, evidenceIn, plainsIn, mintsIn, SameEvidence}
 use Rattle.route.proofs.OrderKeys.{plains-hold, evidence-holds, among, Wide, wide}
 use Rattle.route.proofs.OrderTable.{Sized}
 
 -- a pack that is not refused has at most 256 keys
-pub few-keys : (p : List ℕ) → numberOf (verdict p) ≡ 0 → keyCount (sectionOf p 0) ≤ 256
+pub few-keys : (p : List ℕ) → refusalNumber (verdict p) ≡ 0 → keyCount (sectionOf p 0) ≤ 256
 few-keys p e = omega (arith, keys-length p, passed p e .few-keys)
 
 -- such a pack has a mint table, after at most 256 passes
-pub answered : (p : List ℕ) → numberOf (verdict p) ≡ 0 → (x : Answer) × (mintsIn p ≡ some x) × (x .room ≤ 256) × (x .passes ≤ 256)
+pub answered : (p : List ℕ) → refusalNumber (verdict p) ≡ 0 → (x : MintAnswer) × (mintsIn p ≡ some x) × (x .room ≤ 256) × (x .passes ≤ 256)
 unfolding inferred
 answered p e =
     answered-256
     (among (sectionOf p 0) (viewOf p .balances) (instructionsIn p))
     (rw (tab-length (keyOf (sectionOf p 0)) 0 (keyCount (sectionOf p 0))) (few-keys p e))
 
-pub made : (p : List ℕ) {x : Answer} → mintsIn p ≡ some x → Made (evidenceIn p) (plainsIn p) x
+pub made : (p : List ℕ) {x : MintAnswer} → mintsIn p ≡ some x → Made (evidenceIn p) (plainsIn p) x
 unfolding inferred
 made p q = mints-made 512 (evidenceIn p) (plainsIn p) q
 
@@ -78,11 +79,11 @@ module _ (p : List ℕ) where
   chain-wide (along c j f n) = (joined-wide j, (chain-wide c) .1)
 
   -- accounts and mints of the mint table have 32 bytes
-  pub sized : {x : Answer} → Made (evidenceIn p) (plainsIn p) x → Sized (x .rows)
+  pub sized : {x : MintAnswer} → Made (evidenceIn p) (plainsIn p) x → Sized (x .rows)
   sized y = record { account = λ r i. (chain-wide ((row-right y i) .0)) .0; mint = λ r i. (chain-wide ((row-right y i) .0)) .1 }
 
 -- there is room for the rows
-pub rows-room : {e : Evidence} {ps : Transfers} {x : Answer} → Made e ps x → length (x .rows) ≤ x .room
+pub rows-room : {e : Evidence} {ps : Transfers} {x : MintAnswer} → Made e ps x → length (x .rows) ≤ x .room
 unfolding mintTable
 rows-room {e} {ps} {x} y =
     let d = settled-distinct (y .settled) in
@@ -105,5 +106,5 @@ module _ {p q : List ℕ} (h : SameEvidence p q) where
       subst (λ (ks : List ℕ). SameMembers (plainsIn p) (transfersOf (keyOf ks) (programAt ks) (instructionsIn q))) (h .keys) (gather-same (moves (keyOf (sectionOf p 0)) (programAt (sectionOf p 0))) (h .invocations))
 
   -- the two mint tables are alike
-  pub tables-alike : {x y : Answer} → mintsIn p ≡ some x → mintsIn q ≡ some y → Alike (evidenceIn p) (plainsIn p) x y
+  pub tables-alike : {x y : MintAnswer} → mintsIn p ≡ some x → mintsIn q ≡ some y → Alike (evidenceIn p) (plainsIn p) x y
   tables-alike a b = alike same-evidence same-plains (made p a) (made q b)

@@ -1,4 +1,4 @@
--- Rows that are written to table 0 are read back from its bytes.
+-- Rows that are written to table 0 are read back from its bytes: rows of one width stand one after the other, so they are taken off by that width again.
 -- Assumes nothing.
 use mathlib.Core.Path.{_≡_, refl, sym, ap, ap₂, _∙_}
 use mathlib.Core.List.{List, [], _∷_, _++_, map, append-assoc, List·Memᴰ, List·Memᴰ·head, List·Memᴰ·tail, Memᴰ·of-map}

@@ -6,14 +6,18 @@ use Prim.Native.Nat.{ℕ, zero, suc, _+_, _*_}
 use native.Mathlib.Nat.{add-zero, zero-add, add-suc, suc-add}
 use native.Mathlib.Numerals.{add-one}
 use native.Mathlib.Omega.{arith}
-use lib.ListN.{length, set, length-append}
+use lib.ListN.{length, getD, set, length-append}
 use Rattle.wire.proofs.Sets.{sets-next}
 use lib.Seq.{sets}
-use Rattle.subtrees.specs.Subtrees.{tab}
-use Rattle.subtrees.proofs.Arrays.{tab-length}
+use Rattle.wire.specs.Tab.{tab}
+use Rattle.wire.proofs.Tab.{tab-length}
+use Rattle.ids.specs.declared.Id.{Id}
 use Rattle.pack.specs.Invocation.{Instruction}
+use Rattle.pack.specs.Sections.{sectionOf}
 use Rattle.evidence.specs.MintTable.{MintRow}
-use Rattle.route.specs.Known.{Puts, Fills, Counts, numberAt, Numbers}
+use Rattle.route.specs.declared.candidate.Candidate.{Candidate}
+use Rattle.route.specs.Arrays.{itemAt}
+use Rattle.route.specs.Known.{Puts, Fills, Counts, rowNumberAt, Numbers}
 use Rattle.route.specs.Lay.{rowsOf, placed}
 
 -- one number more
@@ -65,49 +69,53 @@ array-more g i a₀ a p =
     rw (p, add-one i, tab-snoc g 0 i, zero-add)
     (sets-next a₀ 0 (tab g 0 i) (g i ∷ []) i (zero-add (length (tab g 0 i)) ∙ tab-length g 0 i))
 
--- nothing is written yet; and one instruction more
-module _ (ms ks : List ℕ) (f : List MintRow → ℕ → Instruction → List (List ℕ)) (x : ℕ → Instruction) where
-  pub fills-none : (w : ℕ) (t : List ℕ) → Fills ms ks f x w 0 0 t t
+-- invocation i, whose program is id, as a candidate for row k; at has the offset of each
+abbrev pub candidate : List ℕ → Id → ℕ → ℕ → Candidate
+candidate at id i k = record { program = id; at = getD at i 0; number = i; row = k }
+
+-- nothing is written yet; and one candidate more
+module _ (ms p at : List ℕ) (f : List MintRow → ℕ → Instruction → List (List ℕ)) where
+  pub fills-none : (w : ℕ) (t : List ℕ) → Fills ms p at f w 0 0 t t
   unfolding tab rowsOf placed
   fills-none w t = record { few = omega arith; counted = λ table h. refl; rows = λ table h. refl }
 
-  pub fills-more : (w i k r : ℕ) (t₀ t u : List ℕ)
-      → Fills ms ks f x w i k t₀ t
-      → Puts ms ks (λ table. f table i (x i)) w k r t u
-      → Fills ms ks f x w (i + 1) (k + r) t₀ u
-  fills-more w i k r t₀ t u a b =
+  pub fills-more : (id : Id) (w i k r : ℕ) (t₀ t u : List ℕ)
+      → Fills ms p at f w i k t₀ t
+      → Puts ms (sectionOf p 0) p f w (candidate at id i k) r t u
+      → Fills ms p at f w (i + 1) (k + r) t₀ u
+  fills-more id w i k r t₀ t u a b =
       let few = a .few in
       let more = b .few in
       record {
         few = omega arith;
-        counted = λ table h. count-more (f table) x i k r (a .counted table h) (b .counted table h);
-        rows = λ table h. rows-more (f table) x i w t₀ t u k (a .rows table h) (a .counted table h) (b .rows table h);
+        counted = λ table h. count-more (f table) (itemAt p at) i k r (a .counted table h) (b .counted table h);
+        rows = λ table h. rows-more (f table) (itemAt p at) i w t₀ t u k (a .rows table h) (a .counted table h) (b .rows table h);
       }
 
-  pub counts-none : (t : List ℕ) → Counts ms ks f x 0 t t
+  pub counts-none : (t : List ℕ) → Counts ms p at f 0 t t
   unfolding tab
   counts-none t = record { each = λ table h. refl }
 
-  pub counts-more : (w i k r : ℕ) (t u : List ℕ) (a₀ a : List ℕ)
-      → Counts ms ks f x i a₀ a
-      → Puts ms ks (λ table. f table i (x i)) w k r t u
-      → Counts ms ks f x (i + 1) a₀ (set a i r)
-  counts-more w i k r t u a₀ a p b =
+  pub counts-more : (id : Id) (w i k r : ℕ) (t u : List ℕ) (a₀ a : List ℕ)
+      → Counts ms p at f i a₀ a
+      → Puts ms (sectionOf p 0) p f w (candidate at id i k) r t u
+      → Counts ms p at f (i + 1) a₀ (set a i r)
+  counts-more id w i k r t u a₀ a c b =
       record {
-        each = λ table h. rw (b .counted table h) (array-more (λ j. length (f table j (x j))) i a₀ a (p .each table h));
+        each = λ table h. rw (b .counted table h) (array-more (λ j. length (f table j (itemAt p at j))) i a₀ a (c .each table h));
       }
 
-  pub numbers-none : (t : List ℕ) → Numbers ms ks f x 0 t t
+  pub numbers-none : (t : List ℕ) → Numbers ms p at f 0 t t
   unfolding tab
   numbers-none t = record { each = λ table h. refl }
 
-  pub numbers-more : (w i k r : ℕ) (t₀ t u : List ℕ) (a₀ a : List ℕ)
-      → Numbers ms ks f x i a₀ a
-      → Fills ms ks f x w i k t₀ t
-      → Puts ms ks (λ table. f table i (x i)) w k r t u
-      → Numbers ms ks f x (i + 1) a₀ (set a i (r * suc k))
-  unfolding numberAt
-  numbers-more w i k r t₀ t u a₀ a p q b =
+  pub numbers-more : (id : Id) (w i k r : ℕ) (t₀ t u : List ℕ) (a₀ a : List ℕ)
+      → Numbers ms p at f i a₀ a
+      → Fills ms p at f w i k t₀ t
+      → Puts ms (sectionOf p 0) p f w (candidate at id i k) r t u
+      → Numbers ms p at f (i + 1) a₀ (set a i (r * suc k))
+  unfolding rowNumberAt
+  numbers-more id w i k r t₀ t u a₀ a c q b =
       record {
-        each = λ table h. rw (b .counted table h, q .counted table h) (array-more (numberAt (f table) x) i a₀ a (p .each table h));
+        each = λ table h. rw (b .counted table h, q .counted table h) (array-more (rowNumberAt (f table) (itemAt p at)) i a₀ a (c .each table h));
       }

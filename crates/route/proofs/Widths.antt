@@ -1,4 +1,4 @@
--- Every row of tables 1 to 4 has the width of its table.
+-- Every row of tables 1 to 4 has the width of its table, because every key and every mint that is put into one has 32 bytes.
 -- Assumes nothing.
 use mathlib.Core.Path.{_≡_, refl, sym, subst, _∙_}
 use mathlib.Core.Logic.{⊎-elim}
@@ -10,15 +10,15 @@ use Rattle.ids.specs.Keys.{Key, keyOf, keyCount}
 use Rattle.ids.specs.Mints.{mintField}
 use Rattle.ids.proofs.Keys.{key-length, mint-length}
 use Rattle.pack.specs.Invocation.{Instruction, Position}
-use Rattle.token.specs.Rows.{rowOf}
+use Rattle.token.specs.Rows.{transferRow}
 use Rattle.token.proofs.Fields.{transfer-length}
-use Rattle.natives.specs.Rows.{rowBy}
+use Rattle.natives.specs.Rows.{actionRowBy}
 use Rattle.natives.proofs.Fields.{action-length}
 use Rattle.swaps.specs.Row.{legRow}
 use Rattle.swaps.proofs.Rows.{leg-length}
 use Rattle.evidence.specs.MintTable.{MintRow, mintIn}
 use Rattle.mints.specs.Bytes.{orZero}
-use Rattle.subtrees.specs.Subtrees.{tab}
+use Rattle.wire.specs.Tab.{tab}
 use Rattle.route.specs.Widths.{invocationWidth, transferWidth, legWidth, actionWidth}
 use Rattle.route.specs.Lay.{rowsOf}
 use Rattle.route.specs.Known.{rowIf}
@@ -73,7 +73,7 @@ module _ (ks : List ℕ) {table : List MintRow} (s : Sound table) where
       transferWidth
       (transferRows ks table)
       (λ i x.
-      if-rowed transferWidth (λ t. rowOf i (keyOf ks (x .program)) (mintIn table (t .source)) t) (transferOf ks x)
+      if-rowed transferWidth (λ t. transferRow i (keyOf ks (x .program)) (mintIn table (t .source)) t) (transferOf ks x)
       (λ t e. transfer-length (keyOf ks) (key-length ks) (programOf ks x) (x .accounts) (x .bytes) e i (keyOf ks (x .program)) (mintIn table (t .source)) (key-length ks (x .program)) (field (t .source))))
       0
       xs
@@ -85,7 +85,7 @@ module _ (ks : List ℕ) {table : List MintRow} (s : Sound table) where
       actionWidth
       (actionRows ks table)
       (λ i x.
-      if-rowed actionWidth (λ a. rowBy i (a .held) (a .action)) (actionOf ks table x)
+      if-rowed actionWidth (λ a. actionRowBy i (a .held) (a .action)) (actionOf ks table x)
       (λ a e. action-length (keyOf ks) (key-length ks) (keyCount ks) (programOf ks x) (x .accounts) (x .bytes) (mintIn table) e i))
       0
       xs

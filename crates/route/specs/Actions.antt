@@ -6,7 +6,7 @@ use mathlib.Core.Option.{Option}
 use Rattle.ids.specs.Keys.{keyOf, keyCount}
 use Rattle.pack.specs.Invocation.{Instruction}
 use Rattle.natives.specs.Natives.{NativeAction, nativeAction}
-use Rattle.natives.specs.Rows.{rowBy}
+use Rattle.natives.specs.Rows.{actionRowBy}
 use Rattle.natives.specs.declared.Native.{Native}
 use Rattle.natives.specs.declared.Native.the-variants.{Nothing, Fund, Sync, Close}
 use Rattle.evidence.specs.MintTable.{MintRow, mintIn}
@@ -19,7 +19,7 @@ actionOf ks table x = nativeAction (keyOf ks) (keyCount ks) (programOf ks x) (x 
 
 -- its row; i is the number of its invocation
 unfoldable pub actionRows : List ℕ → List MintRow → ℕ → Instruction → List (List ℕ)
-actionRows ks table i x = rowIf (λ a. rowBy i (a .held) (a .action)) (actionOf ks table x)
+actionRows ks table i x = rowIf (λ a. actionRowBy i (a .held) (a .action)) (actionOf ks table x)
 
 -- how many actions a case is
 abbrev pub actionCount : Native → ℕ

@@ -1,4 +1,4 @@
--- Where the rows stand in the tables of a call that is not refused, and what is behind them.
+-- What stands in the tables after a call: zeros where it is refused, else the rows, and zeros behind them.
 -- Assumes nothing.
 use Prim.Native.Nat.{ℕ, _*_, _-_, _≤_, _<_}
 use mathlib.Core.Path.{_≡_}
@@ -9,6 +9,14 @@ use Rattle.wire.specs.Zeros.{zeros}
 use Rattle.route.specs.Widths.{mintWidth, invocationWidth, transferWidth, legWidth, actionWidth}
 use Rattle.route.specs.Tables.{Tables}
 use Rattle.route.specs.Route.{Lent, Routed, tablesIn}
+
+-- all five tables are zero throughout
+pub record AllZero (l : Lent) (r : Routed) : Type 0 where
+  pub mints : r .mints ≡ zeros (l .mints)
+  pub invocations : r .invocations ≡ zeros (l .invocations)
+  pub transfers : r .transfers ≡ zeros (l .transfers)
+  pub legs : r .legs ≡ zeros (l .legs)
+  pub natives : r .natives ≡ zeros (l .natives)
 
 -- a table t of n bytes, of which the answer counts c rows of w bytes: they are these rows, each w bytes long, they have room, row k stands at k * w, and
 -- every byte behind the last of them is zero

@@ -6,8 +6,10 @@ use mathlib.Core.List.{List}
 use mathlib.Core.Option.{Option, none}
 use Rattle.ids.specs.Keys.{Key, keyOf}
 use Rattle.pack.specs.Invocation.{Instruction}
+use Rattle.pack.specs.Sections.{sectionOf}
 use Rattle.swaps.specs.Leg.{RouteLeg}
 use Rattle.swaps.specs.Swap.{swap}
+use Rattle.pack.specs.View.{poolsIn}
 use Rattle.swaps.specs.Row.{legRow}
 use Rattle.evidence.specs.MintTable.{MintRow, mintIn}
 use Rattle.route.specs.Known.{rowIf}
@@ -21,3 +23,7 @@ legOf names ks pools table x =
 -- its row; i is the number of its invocation
 unfoldable pub legRows : List ℕ → List ℕ → List Key → List MintRow → ℕ → Instruction → List (List ℕ)
 legRows names ks pools table i x = rowIf (legRow i (keyOf ks (x .program))) (legOf names ks pools table x)
+
+-- the same by a pack's keys and pools
+abbrev pub legRowsIn : List ℕ → List ℕ → List MintRow → ℕ → Instruction → List (List ℕ)
+legRowsIn names p = legRows names (sectionOf p 0) (poolsIn (sectionOf p 4))

@@ -8,11 +8,13 @@ pub mod Row
 pub mod Widths
 pub mod Tables
 pub mod Route
+pub mod Enough
 pub mod Fit
 pub mod Arrays
 pub mod Filled
 pub mod Laid
 pub mod Order
+pub mod Viewed
 pub mod MarkedCases
 pub mod WorkedForm
 pub mod WorkedLegs

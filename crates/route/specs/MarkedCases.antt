@@ -18,7 +18,7 @@ use Rattle.pack.specs.View.{View}
 use Rattle.pack.specs.Flatten.{outermost}
 use Rattle.swaps.specs.Discriminators.{SELL, SWAP2}
 use Rattle.evidence.specs.MintTable.{MintRow}
-use Rattle.subtrees.specs.Subtrees.{tab}
+use Rattle.wire.specs.Tab.{tab}
 use Rattle.route.specs.Widths.{invocationWidth, legWidth}
 use Rattle.route.specs.Route.{Routed}
 use Rattle.route.specs.Order.{mintsLeft}
@@ -60,15 +60,23 @@ unfoldable pub key : ℕ → Key
 key i = replicate 32 (suc i)
 
 -- one leg, by the accounts that are its trader, input and output; no leg
-abbrev pub leg : ℕ → ℕ → ℕ → Outcome
-leg trader input output = legs-are ((key trader, key input, key output) ∷ [])
+abbrev pub oneLeg : ℕ → ℕ → ℕ → Outcome
+oneLeg trader input output = legs-are ((key trader, key input, key output) ∷ [])
 
 abbrev pub no-leg : Outcome
 no-leg = legs-are []
 
--- the keys of n accounts, then the program's; n is its index
+-- n accounts, then the keys of programs
+abbrev pub keysWith : ℕ → List Key → List (ℕ × Key)
+keysWith n programs = tab (λ i. (1, key i)) 0 n ++ map (λ (k : Key). (1, k)) programs
+
+-- one program's; n is its index
 abbrev pub keysFor : Id → ℕ → List (ℕ × Key)
-keysFor program n = tab (λ i. (1, key i)) 0 n ++ ((1, idAt (numberOf program)) ∷ [])
+keysFor program n = keysWith n (idAt (numberOf program) ∷ [])
+
+-- an instruction: the index of its program's key, the indexes of its accounts, its data
+abbrev pub calls : ℕ → List ℕ → List ℕ → Instruction
+calls program accounts d = record { program = program; accounts = accounts; bytes = d }
 
 -- keys, balances, outer instructions and groups; no pool has graduated
 abbrev pub saying : List (ℕ × Key) → List (ℕ × Key) → List Instruction → List (Group Instruction) → View
@@ -76,11 +84,11 @@ saying keys balances outer groups = record { keys = keys; balances = balances; o
 
 -- one instruction: a program, its number of accounts, its data
 abbrev pub one : Id → ℕ → List ℕ → View
-one program n d = saying (keysFor program n) [] (record { program = n; accounts = tab (λ i. i) 0 n; bytes = d } ∷ []) []
+one program n d = saying (keysFor program n) [] (calls n (tab (λ i. i) 0 n) d ∷ []) []
 
 -- an instruction of no known program, without accounts and data
 abbrev pub bare : Instruction
-bare = record { program = 0; accounts = []; bytes = [] }
+bare = calls 0 [] []
 
 -- an outer instruction with two inner ones: height 2, and another height or none
 abbrev pub family : Option ℕ → View
@@ -114,31 +122,31 @@ Y = key 9
 
 -- a plain transfer from one of these accounts to another
 abbrev pub pays : ℕ → ℕ → Instruction
-pays a b = record { program = 3; accounts = a ∷ b ∷ a ∷ []; bytes = 3 ∷ zeros 8 }
+pays a b = calls 3 (a ∷ b ∷ a ∷ []) (3 ∷ zeros 8)
 
 -- A is recorded with X and B with Y; then SPL Token makes transfers
 abbrev pub meeting : List Instruction → View
 meeting transfers = saying (keysFor SplToken 3) ((0, X) ∷ (1, Y) ∷ []) transfers []
 
 -- PumpSwap's SELL, and DLMM's SWAP2 with what follows its two numbers
-abbrev pub sell : List ℕ
-sell = leBytes 8 SELL ++ zeros 16
+abbrev pub sellData : List ℕ
+sellData = leBytes 8 SELL ++ zeros 16
 
-abbrev pub swap2 : List ℕ → List ℕ
-swap2 l = leBytes 8 SWAP2 ++ zeros 16 ++ l
+abbrev pub swap2Data : List ℕ → List ℕ
+swap2Data l = leBytes 8 SWAP2 ++ zeros 16 ++ l
 
 unfoldable pub cases : List (View × Outcome)
 cases =
     -- a: AMM V4 tag 9 with 17 accounts: trader 16, input 14, output 15
-    (one AmmV4 17 (9 ∷ zeros 16), leg 16 14 15)
+    (one AmmV4 17 (9 ∷ zeros 16), oneLeg 16 14 15)
     -- b: with 18 each of them stands one place later
-    ∷ (one AmmV4 18 (9 ∷ zeros 16), leg 17 15 16)
+    ∷ (one AmmV4 18 (9 ∷ zeros 16), oneLeg 17 15 16)
     -- c: PumpSwap takes 17 accounts and 21, not 16, 18 or 20
-    ∷ (one PumpSwap 16 sell, no-leg)
-    ∷ (one PumpSwap 17 sell, leg 1 5 6)
-    ∷ (one PumpSwap 18 sell, no-leg)
-    ∷ (one PumpSwap 20 sell, no-leg)
-    ∷ (one PumpSwap 21 sell, leg 1 5 6)
+    ∷ (one PumpSwap 16 sellData, no-leg)
+    ∷ (one PumpSwap 17 sellData, oneLeg 1 5 6)
+    ∷ (one PumpSwap 18 sellData, no-leg)
+    ∷ (one PumpSwap 20 sellData, no-leg)
+    ∷ (one PumpSwap 21 sellData, oneLeg 1 5 6)
     -- d: heights 2 and 3: ends 3, 3, 3 and two tests
     ∷ (family (some 3), ends-are (3 ∷ 3 ∷ 3 ∷ []) 2)
     -- e: the second height absent: the first inner ends before it, and one test more
@@ -152,11 +160,11 @@ cases =
     ∷ (one Token2022 4 (26 ∷ 1 ∷ zeros 16), transfers-are 0)
     ∷ (one Token2022 4 (26 ∷ 1 ∷ zeros 17), transfers-are 1)
     -- i: SWAP2 of 24 bytes, without a count of slices, is no leg; of 28 with count 0 it is
-    ∷ (one Dlmm 16 (swap2 []), no-leg)
-    ∷ (one Dlmm 16 (swap2 (zeros 4)), leg 10 4 5)
+    ∷ (one Dlmm 16 (swap2Data []), no-leg)
+    ∷ (one Dlmm 16 (swap2Data (zeros 4)), oneLeg 10 4 5)
     -- j: one slice that claims two accounts after the fixed 16: no leg of 17, a leg of 18
-    ∷ (one Dlmm 17 (swap2 (1 ∷ 0 ∷ 0 ∷ 0 ∷ 3 ∷ 0 ∷ 2 ∷ [])), no-leg)
-    ∷ (one Dlmm 18 (swap2 (1 ∷ 0 ∷ 0 ∷ 0 ∷ 3 ∷ 0 ∷ 2 ∷ [])), leg 10 4 5)
+    ∷ (one Dlmm 17 (swap2Data (1 ∷ 0 ∷ 0 ∷ 0 ∷ 3 ∷ 0 ∷ 2 ∷ [])), no-leg)
+    ∷ (one Dlmm 18 (swap2Data (1 ∷ 0 ∷ 0 ∷ 0 ∷ 3 ∷ 0 ∷ 2 ∷ [])), oneLeg 10 4 5)
     -- k: initialise data [1] records a mint, [1, 0] nothing
     ∷ (one SplToken 2 (1 ∷ []), mints-are ((key 0, key 1, 0) ∷ []) 1)
     ∷ (one SplToken 2 (1 ∷ 0 ∷ []), mints-are [] 0)

@@ -16,11 +16,11 @@ use Rattle.pack.specs.Flatten.{flatten}
 use Rattle.evidence.specs.Evidence.{Evidence}
 use Rattle.evidence.specs.Passes.{Transfers}
 use Rattle.evidence.specs.Chains.{Chain}
-use Rattle.evidence.specs.MintTable.{MintRow, Answer}
+use Rattle.evidence.specs.MintTable.{MintRow, MintAnswer}
 use Rattle.mints.specs.Inference.{evidenceOf, transfersOf, inferred}
 use Rattle.route.specs.Widths.{mintWidth}
 use Rattle.route.specs.Tables.{instructionsOf}
-use Rattle.route.specs.declared.Answer.{Answer as Reply}
+use Rattle.route.specs.declared.Answer.{Answer}
 use Rattle.route.specs.Route.{Routed}
 
 -- the kept invocations of a pack without their positions: program index, accounts, data
@@ -36,7 +36,7 @@ abbrev pub plainsIn : List ℕ → Transfers
 plainsIn p = transfersOf (keyOf (sectionOf p 0)) (programAt (sectionOf p 0)) (instructionsIn p)
 
 -- its mint table
-abbrev pub mintsIn : List ℕ → Option Answer
+abbrev pub mintsIn : List ℕ → Option MintAnswer
 mintsIn p = inferred (keyOf (sectionOf p 0)) (programAt (sectionOf p 0)) (viewOf p .balances) (instructionsIn p)
 
 -- equal keys, flags included; the same balance rows and the same kept invocations, in any order
@@ -62,13 +62,16 @@ abbrev pub Succeeds : Routed → Type 0
 Succeeds r = r .answer .number ≡ 0
 
 -- names and pack are taken: the call meets none of the refusals 1 to 7, and only room may be wanting
-abbrev pub InputTaken : Reply → Type 0
+abbrev pub InputTaken : Answer → Type 0
 InputTaken r = (k : ℕ) → 1 ≤ k → k ≤ 7 → r .number ≢ k
 
--- a call that is refused for want of room in table 0
-pub record NoRoom (r : Routed) : Type 0 where
-  pub number : r .answer .number ≡ 8
-  pub place : r .answer .place ≡ 0
+-- an answer that is this refusal
+abbrev pub RefusedWith : Answer → ℕ → ℕ → Type 0
+RefusedWith r number place = (r .number ≡ number) × (r .place ≡ place)
+
+-- refused for want of room in table 0
+abbrev pub NoRoom : Answer → Type 0
+NoRoom r = RefusedWith r 8 0
 
 -- account a is filled in with mint m: it has that row, and the row's mark is 1 or 2
 pub record FilledWith (left : List MintRow) (a m : Key) : Type 0 where

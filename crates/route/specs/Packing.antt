@@ -12,6 +12,8 @@ use Rattle.pack.specs.Group.{Group}
 use Rattle.pack.specs.View.{View, viewOf}
 use Rattle.pack.proofs.Cases.{packed}
 use Rattle.route.specs.Row.{flagged}
+use Rattle.route.specs.Route.{Routed, route}
+use Rattle.route.specs.WorkedForm.{names, workedRoom}
 
 -- a key after its flag, a mint after its account's index
 abbrev pub keyRow : ℕ × Key → List ℕ
@@ -39,6 +41,14 @@ packOf v =
     (flatMap instructionItem (v .outer))
     (flatMap groupItem (v .groups))
     (flatMap (λ k. k) (v .pools))
+
+-- what the call leaves of that pack
+unfoldable pub called : View → Routed
+called v = route names (packOf v) workedRoom
+
+-- of what a call leaves: the number of its refusal, and what is seen there
+abbrev pub looked : {B : Type 0} → (Routed → B → B) → B → Routed → ℕ × B
+looked see b r = (r .answer .number, see r b)
 
 -- the packs of cases, read back, say what the cases say
 abbrev pub ReadBack : {B : Type 0} → List (View × B) → Type 0

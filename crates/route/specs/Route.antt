@@ -11,7 +11,7 @@ use Rattle.wire.specs.Zeros.{zeros}
 use Rattle.pack.specs.Sections.{sectionOf}
 use Rattle.pack.specs.View.{viewOf}
 use Rattle.pack.specs.Flatten.{flatten}
-use Rattle.pack.specs.Verdict.{verdict, numberOf, placeOf}
+use Rattle.pack.specs.Verdict.{verdict, refusalNumber, placeOf}
 use Rattle.pack.specs.declared.Verdict.{Verdict}
 use Rattle.route.specs.Widths.{mintWidth, invocationWidth, transferWidth, legWidth, actionWidth}
 use Rattle.route.specs.declared.Answer.{Answer}
@@ -74,15 +74,24 @@ accepted t l =
       natives = written actionWidth (t .natives) (l .natives);
     }
 
--- refusal 8 at the lowest table with too few whole rows; table 0 needs room for ambiguous accounts too
+-- the lowest table with too few whole rows for an answer, if there is one; table 0 needs room for ambiguous accounts too
+abbrev pub tooSmall : Lent → ℕ → Answer → Option ℕ
+tooSmall l room a =
+    cond (ltb (l .mints / mintWidth) room) (some 0)
+    (cond (ltb (l .invocations / invocationWidth) (a .invocations)) (some 1)
+    (cond (ltb (l .transfers / transferWidth) (a .transfers)) (some 2)
+    (cond (ltb (l .legs / legWidth) (a .legs)) (some 3)
+    (cond (ltb (l .natives / actionWidth) (a .natives)) (some 4)
+    none))))
+
+-- what a success is where no table is too small, else what a refusal at table k is
+abbrev pub byRoom : {A : Type 0} → A → (ℕ → A) → Option ℕ → A
+byRoom success refusal none = success
+byRoom success refusal (some k) = refusal k
+
+-- the success, or refusal 8 at the table that is too small
 unfoldable pub fitted : Tables → Lent → Routed
-fitted t l =
-    cond (ltb (l .mints / mintWidth) (t .room)) (refused 8 0 l)
-    (cond (ltb (l .invocations / invocationWidth) (length (t .invocations))) (refused 8 1 l)
-    (cond (ltb (l .transfers / transferWidth) (length (t .transfers))) (refused 8 2 l)
-    (cond (ltb (l .legs / legWidth) (length (t .legs))) (refused 8 3 l)
-    (cond (ltb (l .natives / actionWidth) (length (t .natives))) (refused 8 4 l)
-    (accepted t l)))))
+fitted t l = byRoom (accepted t l) (λ k. refused 8 k l) (tooSmall l (t .room) (accepted t l .answer))
 
 -- refusal 7: the passes do not suffice
 unfoldable pub passed : Option Tables → Lent → Routed
@@ -95,7 +104,7 @@ tablesIn names p = tables names (sectionOf p 0) (viewOf p .balances) (flatten (v
 
 -- refusals 2 to 6, by the pack's verdict
 unfoldable pub judged : List ℕ → List ℕ → Lent → Verdict → Routed
-judged names p l v = cond (eqb (numberOf v) 0) (passed (tablesIn names p) l) (refused (numberOf v) (placeOf v) l)
+judged names p l v = cond (eqb (refusalNumber v) 0) (passed (tablesIn names p) l) (refused (refusalNumber v) (placeOf v) l)
 
 -- the whole call
 unfoldable pub route : List ℕ → List ℕ → Lent → Routed

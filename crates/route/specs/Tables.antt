@@ -8,10 +8,11 @@ use lib.ListN.{length, getD, take}
 use Rattle.ids.specs.Keys.{Key, keyOf}
 use Rattle.ids.specs.Which.{programAt}
 use Rattle.pack.specs.Invocation.{Instruction, Position, Invocation}
-use Rattle.evidence.specs.MintTable.{MintRow, Answer}
+use Rattle.evidence.specs.MintTable.{MintRow, MintAnswer}
 use Rattle.mints.specs.Bytes.{mintRow}
 use Rattle.mints.specs.Inference.{inferred}
-use Rattle.subtrees.specs.Subtrees.{tab, place, bits, endOf, insideOf, testsOf}
+use Rattle.wire.specs.Tab.{tab}
+use Rattle.subtrees.specs.Subtrees.{positionIn, bits, endOf, insideOf, testsOf}
 use Rattle.route.specs.Known.{present}
 use Rattle.route.specs.Lay.{rowsOf}
 use Rattle.route.specs.Program.{programOf, programBits}
@@ -51,10 +52,10 @@ module _ (names ks : List ℕ) (pools : List Key) (table : List MintRow) where
 
   -- row i of table 1: ps are the positions of the instructions xs
   unfoldable pub invocationAt : List Position → List Instruction → ℕ → List ℕ
-  invocationAt ps xs i = invocationRow (place ps i) (endOf ps i) (insideOf ps (map ownOf xs) i + flagsOf (item xs i)) (legNumber xs i)
+  invocationAt ps xs i = invocationRow (positionIn ps i) (endOf ps i) (insideOf ps (map ownOf xs) i + flagsOf (item xs i)) (legNumber xs i)
 
 -- all tables, once the mints are known
-unfoldable pub tablesWith : List ℕ → List ℕ → List Key → List Position → List Instruction → Answer → Tables
+unfoldable pub tablesWith : List ℕ → List ℕ → List Key → List Position → List Instruction → MintAnswer → Tables
 tablesWith names ks pools ps xs a =
     record {
       mints = map mintRow (a .rows);
@@ -67,7 +68,7 @@ tablesWith names ks pools ps xs a =
       tests = testsOf ps;
     }
 
-unfoldable pub tablesIf : List ℕ → List ℕ → List Key → List Position → List Instruction → Option Answer → Option Tables
+unfoldable pub tablesIf : List ℕ → List ℕ → List Key → List Position → List Instruction → Option MintAnswer → Option Tables
 tablesIf names ks pools ps xs none = none
 tablesIf names ks pools ps xs (some a) = some (tablesWith names ks pools ps xs a)
 

@@ -6,7 +6,7 @@ use mathlib.Core.Option.{Option}
 use Rattle.ids.specs.Keys.{keyOf}
 use Rattle.pack.specs.Invocation.{Instruction}
 use Rattle.token.specs.Transfers.{Transfer, transfer}
-use Rattle.token.specs.Rows.{rowOf}
+use Rattle.token.specs.Rows.{transferRow}
 use Rattle.token.specs.declared.Moved.{Moved}
 use Rattle.token.specs.declared.Moved.the-variants.{Nothing, FeeUnknown, FeeKnown}
 use Rattle.evidence.specs.MintTable.{MintRow, mintIn}
@@ -19,7 +19,7 @@ transferOf ks x = transfer (keyOf ks) (programOf ks x) (x .accounts) (x .bytes)
 
 -- its row, with the source's final mint out of the rows of table 0; i is the number of its invocation
 unfoldable pub transferRows : List ℕ → List MintRow → ℕ → Instruction → List (List ℕ)
-transferRows ks table i x = rowIf (λ t. rowOf i (keyOf ks (x .program)) (mintIn table (t .source)) t) (transferOf ks x)
+transferRows ks table i x = rowIf (λ t. transferRow i (keyOf ks (x .program)) (mintIn table (t .source)) t) (transferOf ks x)
 
 -- how many transfers that is
 abbrev pub movedCount : Moved → ℕ

@@ -11,14 +11,14 @@ use Rattle.ids.specs.Ids.{idAt}
 use Rattle.ids.specs.declared.Id.{Id}
 use Rattle.ids.specs.declared.Id.the-variants.{PumpFun, LaunchLab, PumpSwap, Cpmm, AmmV4, Orca}
 use Rattle.pack.specs.View.{View}
-use Rattle.subtrees.specs.Subtrees.{tab}
-use Rattle.route.specs.MarkedCases.{key, keysFor, saying, family, X, Y}
-use Rattle.route.specs.WorkedForm.{Shown, mints-are, invocations-are, transfers-are, legs-are, natives-are, bits-are, answers, row, first, second, standard, reward, swapBaseIn, splToken, token2022, wrappedSol, keysWith, calls}
-use Rattle.route.specs.WorkedLegs.{legCases, swapV2, sellExactIn, buyExactIn, buyV3, sellV3, buyV2, sellV2, sell, legRow, parties, pair, named, exactIn, exactOut, exchanged, numbers, directed}
+use Rattle.wire.specs.Tab.{tab}
+use Rattle.route.specs.MarkedCases.{key, keysWith, keysFor, calls, saying, family, X, Y}
+use Rattle.route.specs.WorkedForm.{Shown, mints-are, invocations-are, transfers-are, legs-are, natives-are, bits-are, answers, row, first, second, standard, reward, swapBaseIn, splToken, token2022, wrappedSol}
+use Rattle.route.specs.WorkedLegs.{legCases, swapV2, sellExactIn, buyExactIn, buyV3, sellV3, buyV2, sellV2, sellBytes, workedLegRow, parties, mintPair, pairOfAccounts, exactIn, exactOut, exchanged, numbers, directed}
 
 -- table 0: account at 0, mint at 32, mark at 64
-abbrev pub held : ℕ → Key → ℕ → List ℕ
-held account mint mark = row 65 ((0, key account) ∷ (32, mint) ∷ (64, mark ∷ []) ∷ [])
+abbrev pub heldRow : ℕ → Key → ℕ → List ℕ
+heldRow account mint mark = row 65 ((0, key account) ∷ (32, mint) ∷ (64, mark ∷ []) ∷ [])
 
 -- accounts 0 and 1 are recorded with X and Y, and both pay account 2; account 0 pays account 3 as well
 abbrev pub doubted : View
@@ -29,8 +29,8 @@ doubted =
 
 -- table 1: outer at 0, inner after its flag at 4, height after its flag at 9, end at 14, bits at 18, leg at 19
 abbrev pub invoked : ℕ → List ℕ → List ℕ → ℕ → ℕ → ℕ → List ℕ
-invoked outer inner height end bits leg =
-    row 23 ((0, outer ∷ []) ∷ (4, inner) ∷ (9, height) ∷ (14, end ∷ []) ∷ (18, bits ∷ []) ∷ (19, leg ∷ []) ∷ [])
+invoked outer inner height end bits shownLeg =
+    row 23 ((0, outer ∷ []) ∷ (4, inner) ∷ (9, height) ∷ (14, end ∷ []) ∷ (18, bits ∷ []) ∷ (19, shownLeg ∷ []) ∷ [])
 
 -- an unknown program calls AMM V4, which calls SPL Token at a height of four bytes; a program that no key has; AMM V4 again
 abbrev pub nested : View
@@ -73,8 +73,8 @@ backed program n balances pools d =
     record { keys = keysFor program n; balances = balances; outer = calls n (tab (λ k. k) 0 n) d ∷ []; groups = []; pools = pools }
 
 -- one leg
-abbrev pub leg : Id → ℕ → List (ℕ × List ℕ) → Shown
-leg program protocol l = legs-are (legRow program protocol l ∷ [])
+abbrev pub shownLeg : Id → ℕ → List (ℕ × List ℕ) → Shown
+shownLeg program protocol l = legs-are (workedLegRow program protocol l ∷ [])
 
 -- table 4: invocation at 0, kind at 4, account at 5, and further pieces
 abbrev pub acted : ℕ → ℕ → ℕ → List (ℕ × List ℕ) → List ℕ
@@ -94,7 +94,7 @@ keyed n = saying (replicate n (1, zeros 32)) [] [] []
 unfoldable pub rowCases : List (View × Shown)
 rowCases =
     -- table 0: recorded, recorded, in doubt, filled in
-    (doubted, mints-are (held 0 X 0 ∷ held 1 Y 0 ∷ held 2 X 2 ∷ held 3 X 1 ∷ []))
+    (doubted, mints-are (heldRow 0 X 0 ∷ heldRow 1 Y 0 ∷ heldRow 2 X 2 ∷ heldRow 3 X 1 ∷ []))
     -- table 1: bits 1 + 2 + 8, 1 + 8 + 16, 4 + 8 + 32, none, 8 + 16; legs 1 and 2
     ∷ (
       nested,
@@ -133,28 +133,28 @@ rowCases =
     ∷ (
       nested,
       legs-are
-          (legRow AmmV4 4 ((0, 1 ∷ []) ∷ parties 1 7 5 6 ++ exactIn)
-          ∷ legRow AmmV4 4 ((0, 4 ∷ []) ∷ parties 1 7 5 6 ++ exchanged)
+          (workedLegRow AmmV4 4 ((0, 1 ∷ []) ∷ parties 1 7 5 6 ++ exactIn)
+          ∷ workedLegRow AmmV4 4 ((0, 4 ∷ []) ∷ parties 1 7 5 6 ++ exchanged)
           ∷ []),
     )
     -- known mints win over the pair, each side by itself; of three pools in the list only CPMM's has graduated
-    ∷ (backed Cpmm 13 ((4, X) ∷ (5, Y) ∷ []) (key 3 ∷ []) (swapBaseIn ++ numbers), leg Cpmm 3 (parties 3 0 4 5 ++ pair X Y ++ exactIn ++ ((249, 1 ∷ []) ∷ [])))
-    ∷ (backed PumpSwap 17 ((6, Y) ∷ []) (key 0 ∷ []) (sell ++ numbers), leg PumpSwap 1 (parties 0 1 5 6 ++ pair (key 3) Y ++ exactIn))
-    ∷ (backed AmmV4 8 ((5, X) ∷ []) (key 1 ∷ []) (16 ∷ numbers), leg AmmV4 4 (parties 1 7 5 6 ++ ((165, 1 ∷ X) ∷ []) ++ exactIn))
+    ∷ (backed Cpmm 13 ((4, X) ∷ (5, Y) ∷ []) (key 3 ∷ []) (swapBaseIn ++ numbers), shownLeg Cpmm 3 (parties 3 0 4 5 ++ mintPair X Y ++ exactIn ++ ((249, 1 ∷ []) ∷ [])))
+    ∷ (backed PumpSwap 17 ((6, Y) ∷ []) (key 0 ∷ []) (sellBytes ++ numbers), shownLeg PumpSwap 1 (parties 0 1 5 6 ++ mintPair (key 3) Y ++ exactIn))
+    ∷ (backed AmmV4 8 ((5, X) ∷ []) (key 1 ∷ []) (16 ∷ numbers), shownLeg AmmV4 4 (parties 1 7 5 6 ++ ((165, 1 ∷ X) ∷ []) ++ exactIn))
     -- a mint of the pair that no key has is absent
-    ∷ (altered Cpmm 13 10 255 [] (swapBaseIn ++ numbers), leg Cpmm 3 (parties 3 0 4 5 ++ ((198, 1 ∷ key 11) ∷ []) ++ exactIn))
+    ∷ (altered Cpmm 13 10 255 [] (swapBaseIn ++ numbers), shownLeg Cpmm 3 (parties 3 0 4 5 ++ ((198, 1 ∷ key 11) ∷ []) ++ exactIn))
     -- LaunchLab's mode at 248, by its account 3
-    ∷ (altered LaunchLab 15 3 16 (standard ∷ []) (buyExactIn ++ numbers), leg LaunchLab 2 (parties 4 0 6 5 ++ named 10 9 ++ exactIn ++ ((248, 1 ∷ []) ∷ [])))
-    ∷ (altered LaunchLab 15 3 16 (reward ∷ []) (buyExactIn ++ numbers), leg LaunchLab 2 (parties 4 0 6 5 ++ named 10 9 ++ exactIn ++ ((248, 2 ∷ []) ∷ [])))
+    ∷ (altered LaunchLab 15 3 16 (standard ∷ []) (buyExactIn ++ numbers), shownLeg LaunchLab 2 (parties 4 0 6 5 ++ pairOfAccounts 10 9 ++ exactIn ++ ((248, 1 ∷ []) ∷ [])))
+    ∷ (altered LaunchLab 15 3 16 (reward ∷ []) (buyExactIn ++ numbers), shownLeg LaunchLab 2 (parties 4 0 6 5 ++ pairOfAccounts 10 9 ++ exactIn ++ ((248, 2 ∷ []) ∷ [])))
     -- two equal token accounts turn the pair of a sell, and of Orca's `swap_v2` against the direction
-    ∷ (altered LaunchLab 15 6 5 [] (sellExactIn ++ numbers), leg LaunchLab 2 (parties 4 0 5 5 ++ named 10 9 ++ exactIn))
-    ∷ (altered PumpSwap 17 6 5 [] (sell ++ numbers), leg PumpSwap 1 (parties 0 1 5 5 ++ named 4 3 ++ exactIn))
-    ∷ (altered Orca 15 9 7 [] (swapV2 ++ directed 1 0), leg Orca 6 (parties 4 3 7 7 ++ named 5 6 ++ exactIn))
+    ∷ (altered LaunchLab 15 6 5 [] (sellExactIn ++ numbers), shownLeg LaunchLab 2 (parties 4 0 5 5 ++ pairOfAccounts 10 9 ++ exactIn))
+    ∷ (altered PumpSwap 17 6 5 [] (sellBytes ++ numbers), shownLeg PumpSwap 1 (parties 0 1 5 5 ++ pairOfAccounts 4 3 ++ exactIn))
+    ∷ (altered Orca 15 9 7 [] (swapV2 ++ directed 1 0), shownLeg Orca 6 (parties 4 3 7 7 ++ pairOfAccounts 5 6 ++ exactIn))
     -- PumpFun's money side is the user where account 2 is wrapped SOL
-    ∷ (altered PumpFun 17 2 18 (wrappedSol ∷ []) (buyV3 ++ numbers), leg PumpFun 8 (parties 5 8 8 9 ++ pair wrappedSol (key 1) ++ exactOut))
-    ∷ (altered PumpFun 17 2 18 (wrappedSol ∷ []) (sellV3 ++ numbers), leg PumpFun 8 (parties 5 8 9 8 ++ pair (key 1) wrappedSol ++ exactIn))
-    ∷ (altered PumpFun 27 2 28 (wrappedSol ∷ []) (buyV2 ++ numbers), leg PumpFun 8 (parties 10 13 13 14 ++ pair wrappedSol (key 1) ++ exactOut))
-    ∷ (altered PumpFun 26 2 27 (wrappedSol ∷ []) (sellV2 ++ numbers), leg PumpFun 8 (parties 10 13 14 13 ++ pair (key 1) wrappedSol ++ exactIn))
+    ∷ (altered PumpFun 17 2 18 (wrappedSol ∷ []) (buyV3 ++ numbers), shownLeg PumpFun 8 (parties 5 8 8 9 ++ mintPair wrappedSol (key 1) ++ exactOut))
+    ∷ (altered PumpFun 17 2 18 (wrappedSol ∷ []) (sellV3 ++ numbers), shownLeg PumpFun 8 (parties 5 8 9 8 ++ mintPair (key 1) wrappedSol ++ exactIn))
+    ∷ (altered PumpFun 27 2 28 (wrappedSol ∷ []) (buyV2 ++ numbers), shownLeg PumpFun 8 (parties 10 13 13 14 ++ mintPair wrappedSol (key 1) ++ exactOut))
+    ∷ (altered PumpFun 26 2 27 (wrappedSol ∷ []) (sellV2 ++ numbers), shownLeg PumpFun 8 (parties 10 13 14 13 ++ mintPair (key 1) wrappedSol ++ exactIn))
     -- table 4: fund with source at 37 and lamports at 101; sync; close with destination at 37 and authority at 69
     ∷ (
       wrapping,

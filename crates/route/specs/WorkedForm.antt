@@ -8,9 +8,7 @@ use lib.Seq.{sets}
 use Rattle.wire.specs.Zeros.{zeros}
 use Rattle.ids.specs.Keys.{Key}
 use Rattle.ids.specs.Ids.{idAt}
-use Rattle.pack.specs.Invocation.{Instruction}
 use Rattle.pack.specs.Items.{rows}
-use Rattle.subtrees.specs.Subtrees.{tab}
 use Rattle.route.specs.Route.{Lent, Routed}
 use Rattle.route.specs.MarkedCases.{key}
 
@@ -77,16 +75,8 @@ unfoldable pub names : List ℕ
 names = swapBaseIn ++ swapBaseOut ++ buy ++ standard ++ reward
 
 -- tables with room for every case
-unfoldable pub room : Lent
-room = record { mints = 520; invocations = 460; transfers = 750; legs = 500; natives = 327 }
-
--- n accounts, then the keys of programs
-abbrev pub keysWith : ℕ → List Key → List (ℕ × Key)
-keysWith n programs = tab (λ i. (1, key i)) 0 n ++ map (λ (k : Key). (1, k)) programs
-
--- an instruction: the index of its program's key, the indexes of its accounts, its data
-abbrev pub calls : ℕ → List ℕ → List ℕ → Instruction
-calls program accounts d = record { program = program; accounts = accounts; bytes = d }
+unfoldable pub workedRoom : Lent
+workedRoom = record { mints = 520; invocations = 460; transfers = 750; legs = 500; natives = 327 }
 
 -- rows of the table of ids
 abbrev pub splToken : Key

@@ -1,15 +1,14 @@
 // Table 1: one row for each invocation.
 use ids::Id;
 ghost use mathlib.Core.Path.{_≡_};
-ghost use Prim.Native.Nat.{ℕ, _<_, _≤_};
+ghost use Prim.Native.Nat.{_<_, _≤_};
 ghost use lib.ListN.{getD};
 ghost use lib.Seq.{sets};
 ghost use Rattle.pack.specs.Invocation.{lowered};
-ghost use Rattle.route.specs.Arrays.{ownFor, ownAt, ownBits, bitsAt, rowAt};
-ghost use Rattle.subtrees.specs.Subtrees.{tab};
-ghost use Rattle.route.specs.Lay.{placed};
+ghost use Rattle.subtrees.specs.Subtrees.{positionOf, positions};
+ghost use Rattle.route.specs.Arrays.{ownFor, ownsOf, ownBits, bitsAt, FillsEach};
 ghost use Rattle.route.specs.Program.{programBits};
-ghost use Rattle.route.specs.Row.{invocationWidth, flagged as flaggedOf, invocationRow};
+ghost use Rattle.route.specs.Row.{flagged as flaggedOf, invocationRow};
 
 // The bytes of a row.
 pub(crate) const WIDTH: usize = 23;
@@ -64,7 +63,7 @@ fn put_row(
     bits: u8,
     leg: u32,
 )
-    ensures { λ _. ⌜ now (out .exit) ≡ sets (now (out .entry)) at (invocationRow (record { outer = outer; inner = lowered inner; height = lowered height }) end bits leg) ⌝ }
+    ensures { λ _. ⌜ now (out .exit) ≡ sets (now (out .entry)) at (invocationRow (positionOf outer inner height) end bits leg) ⌝ }
 {
     let mut row = [0u8; WIDTH];
     wire::put_u32(&mut row, 0, outer);
@@ -109,9 +108,9 @@ fn own_for(moved: u8, leg: u32) -> u8
 }
 
 // The same for n invocations.
-pub(crate) fn put_own(n: usize, moved: &[u8; 1024], leg: &[u32; 1024], own: &mut [u8; 1024])
+fn put_own(n: usize, moved: &[u8; 1024], leg: &[u32; 1024], own: &mut [u8; 1024])
     requires { ⌜ n ≤ 1024 ⌝ }
-    ensures { λ _. ⌜ now (own .exit) ≡ sets (now (own .entry)) 0 (tab (ownAt (now (moved .entry)) (now (leg .entry))) 0 n) ⌝ }
+    ensures { λ _. ⌜ now (own .exit) ≡ sets (now (own .entry)) 0 (ownsOf (now (moved .entry)) (now (leg .entry)) n) ⌝ }
 {
     let mut i = 0;
     while i < n {
@@ -141,25 +140,29 @@ fn bits(
     inside[i] + program_bits(ids::of_number(programs[i])) + own_bits(moved[i], leg[i])
 }
 
-// The rows of the n invocations.
+// The rows of the n invocations, by how many transfers and which leg each has. Answers the calls of `descendant`.
 pub(crate) fn put_rows(
     n: usize,
-    programs: &[u8; 1024],
     outer: &[u32; 1024],
     inner: &[u32; 1024],
     height: &[u64; 1024],
-    ends: &[u32; 1024],
-    inside: &[u8; 1024],
+    programs: &[u8; 1024],
     moved: &[u8; 1024],
     leg: &[u32; 1024],
     out: &mut [u8],
-)
-    requires { ⌜ (n ≤ 1024) × ((i : ℕ) → getD (now inside) i 0 ≤ 3) ⌝ }
-    ensures { λ _. ⌜ now (out .exit) ≡ placed invocationWidth 0 (tab (rowAt (now (programs .entry)) (now (outer .entry)) (now (inner .entry)) (now (height .entry)) (now (ends .entry)) (now (inside .entry)) (now (moved .entry)) (now (leg .entry))) 0 n) (now (out .entry)) ⌝ }
+) -> u32
+    requires { ⌜ n ≤ 1024 ⌝ }
+    ensures { λ r. ⌜ FillsEach (positions (now (outer .entry)) (now (inner .entry)) (now (height .entry)) n)
+        (now (programs .entry)) (now (moved .entry)) (now (leg .entry)) r (now (out .entry)) (now (out .exit)) ⌝ }
 {
+    let mut own = [0u8; 1024];
+    put_own(n, moved, leg, &mut own);
+    let mut ends = [0u32; 1024];
+    let mut inside = [0u8; 1024];
+    let tests = subtrees::subtrees(n, outer, inner, height, &own, &mut ends, &mut inside);
     let mut i = 0;
     while i < n {
-        let b = bits(programs, inside, moved, leg, i);
+        let b = bits(programs, &inside, moved, leg, i);
         put_row(
             out,
             i * WIDTH,
@@ -172,4 +175,5 @@ pub(crate) fn put_rows(
         );
         i += 1;
     }
+    tests
 }

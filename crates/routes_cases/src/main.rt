@@ -1,15 +1,6 @@
 // Prints the name and the listing of each file that its arguments name: inputs at the edges of what `routes` reads and prints.
 use libc::STDOUT_FILENO;
 
-// As `routes` does with standard input.
-fn print(fd: i32) {
-    let mut input = [0u8; 61529];
-    let n = io::read_full(fd, &mut input);
-    let mut text = io::large_buffer();
-    let k = listing::list(&input[..n], &mut text);
-    io::write_all(STDOUT_FILENO, &text[..k]);
-}
-
 fn case(i: usize) {
     let mut path = io::buffer();
     let n = os::arg(i, &mut path);
@@ -20,7 +11,7 @@ fn case(i: usize) {
     }
     io::write_all(STDOUT_FILENO, &path[..n]);
     io::write_all(STDOUT_FILENO, b"\n");
-    print(fd);
+    listing::print(fd);
     libc::close(fd);
 }
 

@@ -1,12 +1,12 @@
--- Lists by their elements: the positions that arrays hold, and arrays filled from the last place backwards.
+-- The positions that arrays hold, and arrays filled from the last place backwards: lists with the same elements are the same.
 -- Assumes nothing.
 use mathlib.Core.Path.{_≡_, refl, sym, ap, _∙_}
 use mathlib.Core.Bool.{Bool, true, false}
 use mathlib.Core.Logic.{_⊎_, inl, inr}
 use mathlib.Core.List.{List, _++_}
 use mathlib.Core.Option.{none}
-use Prim.Native.Nat.{ℕ, zero, suc, _+_, _-_, _≤_, _<_}
-use native.Mathlib.Nat.{add-zero, zero-add, add-suc, suc-add, eq-or-lt-of-le}
+use Prim.Native.Nat.{ℕ, _+_, _-_, _≤_, _<_}
+use native.Mathlib.Nat.{zero-add, eq-or-lt-of-le}
 use native.Mathlib.Omega.{arith}
 use borrow.Author.Tests.{lt-ltb, le-ltb, ltb-true, ltb-false}
 use lib.Dec.{ltb}
@@ -14,34 +14,20 @@ use lib.ListN.{length, getD, set, length-append, length-replicate, List·getD-ap
 use lib.Seq.{ext-getD, getD-append-add, getD-set-same, getD-set-other}
 use Rattle.wire.specs.Zeros.{zeros}
 use Rattle.wire.proofs.Zeros.{zeros-at}
+use Rattle.wire.proofs.Tab.{tab-length, tab-at}
 use Rattle.pack.specs.Invocation.{Position, positionAt}
 use Rattle.subtrees.specs.Descendant.{descendant}
 use Rattle.subtrees.proofs.Blocks.{after}
-use Rattle.subtrees.specs.Subtrees.{tab, place, within, endOf, insideOf, positions, taken, filled, Known}
-
-pub tab-length : {A : Type 0} (f : ℕ → A) (i n : ℕ) → length (tab f i n) ≡ n
-unfolding tab
-tab-length f i zero = refl
-tab-length f i (suc n) = ap suc (tab-length f (suc i) n)
-
-pub tab-at : {A : Type 0} (f : ℕ → A) (d : A) (i n k : ℕ) → k < n → getD (tab f i n) k d ≡ f (i + k)
-unfolding tab
-tab-at f d i zero k h = absurd (omega arith)
-tab-at f d i (suc n) zero h = rw add-zero
-tab-at f d i (suc n) (suc k) h = rw (tab-at f d (suc i) n k (omega arith), add-suc, suc-add)
-
-pub tab-same : {A : Type 0} (f g : ℕ → A) (i n : ℕ) → ((k : ℕ) → i ≤ k → k < i + n → f k ≡ g k) → tab f i n ≡ tab g i n
-unfolding tab
-tab-same f g i zero h = refl
-tab-same f g i (suc n) h = rw (h i (omega arith) (omega arith), tab-same f g (suc i) n (λ k p q. h k (omega arith) (omega arith)))
+use Rattle.wire.specs.Tab.{tab}
+use Rattle.subtrees.specs.Subtrees.{positionIn, within, endOf, insideOf, positions, taken, filled, Known}
 
 module _ (outer inner height : List ℕ) (n : ℕ) where
   pub positions-length : length (positions outer inner height n) ≡ n
   unfolding positions
   positions-length = tab-length (positionAt outer inner height) 0 n
 
-  place-at : (k : ℕ) → k < n → place (positions outer inner height n) k ≡ positionAt outer inner height k
-  unfolding place positions
+  place-at : (k : ℕ) → k < n → positionIn (positions outer inner height n) k ≡ positionAt outer inner height k
+  unfolding positionIn positions
   place-at k l = tab-at (positionAt outer inner height) (record { outer = 0; inner = none; height = none }) 0 n k l ∙ rw zero-add
 
   -- the relation by what the arrays hold
@@ -49,14 +35,6 @@ module _ (outer inner height : List ℕ) (n : ℕ) where
       → r ≡ descendant (positionAt outer inner height i) (positionAt outer inner height x) → within (positions outer inner height n) i x ≡ r
   unfolding within
   within-at i x r l k e = rw (place-at i l, place-at x k) (sym e)
-
-  -- arrays that hold a list of positions, place by place
-  pub positions-are : (ps : List Position) → length ps ≡ n
-      → ((k : ℕ) → k < n → positionAt outer inner height k ≡ place ps k) → positions outer inner height n ≡ ps
-  unfolding place
-  positions-are ps l f =
-      ext-getD (record { outer = 0; inner = none; height = none }) (positions outer inner height n) ps (positions-length ∙ sym l)
-      (λ k h. place-at k (omega (arith, positions-length)) ∙ f k (omega (arith, positions-length)))
 
   -- a known end lies after its invocation, and is at most n
   pub known-end : (own ends inside : List ℕ) (at e : ℕ) → Known (positions outer inner height n) own ends inside at → at ≤ e → e < n

@@ -8,13 +8,14 @@ use Prim.Native.Nat.{ℕ, _+_, _*_, _≤_, _<_}
 use native.Mathlib.Omega.{arith}
 use lib.ListN.{length, getD}
 use Rattle.pack.specs.Invocation.{Position}
-use Rattle.subtrees.specs.Blocks.{sumIn, size}
+use Rattle.subtrees.specs.Blocks.{sumIn, blockSize}
 use Rattle.subtrees.specs.Subtrees.{within, hasTransfer, hasSwap, bits, endOf, insideOf, testsOf, insidesOf, Subtrees}
 use Rattle.subtrees.proofs.Transitive.{within-trans}
 use Rattle.subtrees.proofs.Blocks as blocks
 use Rattle.subtrees.proofs.Ranges.{any-same}
 use Rattle.subtrees.proofs.Bound.{bound}
-use Rattle.subtrees.proofs.Arrays.{tab-same, filled-at}
+use Rattle.wire.proofs.Tab.{tab-same}
+use Rattle.subtrees.proofs.Arrays.{filled-at}
 
 module _ (ps : List Position) where
   -- an end lies after its invocation, and is at most n
@@ -42,7 +43,7 @@ module _ (ps : List Position) where
   unfolding insideOf
   inside-same a b h i l =
       let w = end-after i l in
-      let m = size (length ps) (within ps) i in
+      let m = blockSize (length ps) (within ps) i in
       ap₂ bits
       (any-same (λ y. hasTransfer (getD a y 0)) (λ y. hasTransfer (getD b y 0)) m (i + 1) (λ y p q. rw (h y (omega arith))))
       (any-same (λ y. hasSwap (getD a y 0)) (λ y. hasSwap (getD b y 0)) m (i + 1) (λ y p q. rw (h y (omega arith))))

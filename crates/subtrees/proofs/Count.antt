@@ -8,7 +8,7 @@ use native.Mathlib.Nat.{add-zero, eq-or-lt-of-le}
 use native.Mathlib.Omega.{arith}
 use borrow.Author.Tests.{lt-ltb, le-ltb, ltb-true, ltb-false}
 use lib.Dec.{ltb}
-use Rattle.subtrees.specs.Blocks.{countIn, sumIn, endAt, size, inBlock, atop, testsAt}
+use Rattle.subtrees.specs.Blocks.{countIn, sumIn, endAt, blockSize, inBlock, atop, testsAt}
 use Rattle.subtrees.proofs.Ranges.{any-no, any-yes, count-none}
 use Rattle.subtrees.proofs.Blocks.{after, nested}
 
@@ -36,14 +36,14 @@ module _ (n : ℕ) (holds : ℕ → ℕ → Bool) where
   top-here : (i e : ℕ) → Stands i e → atop n holds i e ≡ true
   unfolding atop Stands
   top-here i e s =
-      rw (any-no (λ y. inBlock n holds y e) (size n holds i) (i + 1) (λ y p q. not-in y e (s y (omega arith))))
+      rw (any-no (λ y. inBlock n holds y e) (blockSize n holds i) (i + 1) (λ y p q. not-in y e (s y (omega arith))))
 
   -- those in its block do
   in-block : (i e x : ℕ) → i < e → e < endAt n holds i → e < x → x < endAt n holds e → atop n holds i x ≡ false
   unfolding atop
   in-block i e x p q r s =
       let here : inBlock n holds e x ≡ true = rw (lt-ltb e x r, lt-ltb x (endAt n holds e) s) in
-      rw (any-yes (λ y. inBlock n holds y x) (size n holds i) (i + 1) e (omega arith) (omega arith) here)
+      rw (any-yes (λ y. inBlock n holds y x) (blockSize n holds i) (i + 1) e (omega arith) (omega arith) here)
 
   -- one jump is one member
   pub tops-jump : (i e : ℕ) → e < n → i < e → e < endAt n holds i → endAt n holds e ≤ endAt n holds i → Stands i e
@@ -51,7 +51,7 @@ module _ (n : ℕ) (holds : ℕ → ℕ → Bool) where
   unfolding countIn
   tops-jump i e l p q b s =
       let w = after n holds e l in
-      let k = size n holds e in
+      let k = blockSize n holds e in
       let r = endAt n holds i - endAt n holds e in
       let cut : endAt n holds i - e ≡ suc (k + r) = omega arith in
       let to : suc e + k ≡ endAt n holds e = omega arith in

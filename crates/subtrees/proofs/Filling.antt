@@ -1,4 +1,4 @@
--- The arrays while they are filled from the last invocation backwards, and when they are full.
+-- The arrays while they are filled from the last invocation backwards, and when they are full: a step needs only what stands behind it.
 -- Assumes nothing.
 use mathlib.Core.Path.{_≡_, _∙_}
 use mathlib.Core.List.{List}

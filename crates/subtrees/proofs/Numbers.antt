@@ -1,4 +1,4 @@
--- `descendant` and the bits on the numbers that the arrays hold.
+-- `descendant` and the bits on the numbers that the arrays hold: these are one higher, with 0 for none, which keeps their order.
 -- Assumes nothing.
 use mathlib.Core.Path.{_≡_, refl, sym, _∙_}
 use mathlib.Core.Bool.{Bool, true, false, cond, _&&_, _||_}

@@ -1,4 +1,4 @@
--- Laws of `anyIn` and `countIn`.
+-- Laws of `anyIn` and `countIn`, by going through the numbers of the range.
 -- Assumes nothing.
 use mathlib.Core.Path.{_≡_, refl, sym}
 use mathlib.Core.Bool.{Bool, true, false, _||_, or-true, or-assoc}

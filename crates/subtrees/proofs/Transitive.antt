@@ -10,7 +10,7 @@ use lib.Dec.{ltb, eqb}
 use Rattle.wire.proofs.Below.{and-left, and-right}
 use Rattle.pack.specs.Invocation.{Position}
 use Rattle.subtrees.specs.Descendant.{higher, inners, descendant}
-use Rattle.subtrees.specs.Subtrees.{place, within}
+use Rattle.subtrees.specs.Subtrees.{positionIn, within}
 use mathlib.Core.List.{List}
 
 ltb-trans : (a b c : ℕ) → ltb a b ≡ true → ltb b c ≡ true → ltb a c ≡ true
@@ -53,4 +53,4 @@ descendant-trans a b c p q =
 -- so it is for the invocations of a list
 pub within-trans : (ps : List Position) (i e x : ℕ) → within ps i e ≡ true → within ps e x ≡ true → within ps i x ≡ true
 unfolding within
-within-trans ps i e x = descendant-trans (place ps i) (place ps e) (place ps x)
+within-trans ps i e x = descendant-trans (positionIn ps i) (positionIn ps e) (positionIn ps x)

@@ -30,8 +30,8 @@ module _ (n : ℕ) (holds : ℕ → ℕ → Bool) where
   endAt i = firstNot (holds i) (n - (i + 1)) (i + 1)
 
   -- the size of a block: every invocation after i and before its end
-  abbrev pub size : ℕ → ℕ
-  size i = endAt i - (i + 1)
+  abbrev pub blockSize : ℕ → ℕ
+  blockSize i = endAt i - (i + 1)
 
   -- x is a member of the block of i
   abbrev pub inBlock : ℕ → ℕ → Bool
@@ -39,7 +39,7 @@ module _ (n : ℕ) (holds : ℕ → ℕ → Bool) where
 
   -- some member of the block of i is f
   abbrev pub someIn : ℕ → (ℕ → Bool) → Bool
-  someIn i f = anyIn f (size i) (i + 1)
+  someIn i f = anyIn f (blockSize i) (i + 1)
 
   -- x lies in no block of a member of the block of i
   unfoldable pub atop : ℕ → ℕ → Bool
@@ -47,7 +47,7 @@ module _ (n : ℕ) (holds : ℕ → ℕ → Bool) where
 
   -- the tests of one invocation: the members of its block that lie in no other member's, and 1 if it ends before n
   unfoldable pub testsAt : ℕ → ℕ
-  testsAt i = countIn (atop i) (size i) (i + 1) + cond (ltb (endAt i) n) 1 0
+  testsAt i = countIn (atop i) (blockSize i) (i + 1) + cond (ltb (endAt i) n) 1 0
 
   -- the tests of all
   abbrev pub allTests : ℕ

@@ -1,29 +1,25 @@
 -- Ends, inside bits and tests of a list of positions, and what the arrays of 1,024 hold.
 -- Assumes nothing.
-use Prim.Native.Nat.{ℕ, zero, suc, _+_, _-_, _/_, _%_, _≤_, _<_}
+use Prim.Native.Nat.{ℕ, _+_, _-_, _/_, _%_, _≤_, _<_}
 use mathlib.Core.Path.{_≡_}
 use mathlib.Core.Bool.{Bool, cond, _||_}
-use mathlib.Core.List.{List, [], _∷_, _++_}
+use mathlib.Core.List.{List, _++_}
 use mathlib.Core.Option.{none}
 use lib.Dec.{ltb, eqb}
 use lib.ListN.{length, getD}
 use Rattle.wire.specs.Zeros.{zeros}
+use Rattle.wire.specs.Tab.{tab}
 use Rattle.pack.specs.Invocation.{Position, lowered, positionAt}
 use Rattle.subtrees.specs.Descendant.{descendant}
 use Rattle.subtrees.specs.Blocks.{endAt, someIn, testsAt, allTests}
 
--- f at the n numbers from i up
-unfoldable pub tab : {A : Type 0} → (ℕ → A) → ℕ → ℕ → List A
-tab f i zero = []
-tab f i (suc n) = f i ∷ tab f (suc i) n
-
 -- position i of a list; past its end nothing is asked of it
-unfoldable pub place : List Position → ℕ → Position
-place ps i = getD ps i (record { outer = 0; inner = none; height = none })
+unfoldable pub positionIn : List Position → ℕ → Position
+positionIn ps i = getD ps i (record { outer = 0; inner = none; height = none })
 
 -- invocation x is a descendant of invocation i
 unfoldable pub within : List Position → ℕ → ℕ → Bool
-within ps i x = descendant (place ps i) (place ps x)
+within ps i x = descendant (positionIn ps i) (positionIn ps x)
 
 -- the end of invocation i
 abbrev pub endOf : List Position → ℕ → ℕ

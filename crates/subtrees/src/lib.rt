@@ -45,7 +45,9 @@ fn within(
     x: usize,
 ) -> bool
     requires { ⌜ (i < 1024) × (x < 1024) ⌝ }
-    ensures { λ r. ⌜ r ≡ descendant (positionAt (now (outer .entry)) (now (inner .entry)) (now (height .entry)) i) (positionAt (now (outer .entry)) (now (inner .entry)) (now (height .entry)) x) ⌝ }
+    ensures { λ r. ⌜ r ≡ descendant
+        (positionAt (now (outer .entry)) (now (inner .entry)) (now (height .entry)) i)
+        (positionAt (now (outer .entry)) (now (inner .entry)) (now (height .entry)) x) ⌝ }
 {
     descendant(outer[i], inner[i], height[i], outer[x], inner[x], height[x])
 }

@@ -18,11 +18,11 @@ use Rattle.swaps.specs.Discriminators.{eight}
 use Rattle.swaps.specs.Data.{is}
 
 -- every element is a byte
-abbrev pub Bytes : List ℕ → Type 0
-Bytes s = (i : ℕ) → getD s i 0 < 256
+abbrev pub AllBytes : List ℕ → Type 0
+AllBytes s = (i : ℕ) → getD s i 0 < 256
 
 -- the bytes of the number are the bytes that it was read from
-back : (n : ℕ) (s : List ℕ) (at : ℕ) → Bytes s → at + n ≤ length s → leBytes n (le n s at) ≡ take n (drop at s)
+back : (n : ℕ) (s : List ℕ) (at : ℕ) → AllBytes s → at + n ≤ length s → leBytes n (le n s at) ≡ take n (drop at s)
 back n s at h f = le-back n s at (λ k l. h (at + k)) f
 
 -- bytes past the eighth do not count
@@ -31,7 +31,7 @@ unfolding le
 within zero m s h = refl
 within (suc n) m s h = rw (within n m s (omega arith), getD-take m s (0 + n) 0 (omega arith))
 
-same-number : (d x : List ℕ) → Bytes d → Bytes x → 8 ≤ length d → length x ≡ 8 → eqb (le 8 d 0) (le 8 x 0) ≡ same (take 8 d) x
+same-number : (d x : List ℕ) → AllBytes d → AllBytes x → 8 ≤ length d → length x ≡ 8 → eqb (le 8 d 0) (le 8 x 0) ≡ same (take 8 d) x
 same-number d x hd hx h e = go (same (take 8 d) x) refl
   where
     go : (t : Bool) → same (take 8 d) x ≡ t → eqb (le 8 d 0) (le 8 x 0) ≡ t
@@ -44,7 +44,7 @@ same-number d x hd hx h e = go (same (take 8 d) x) refl
         omega arith)
 
 -- `disc == Some(&x[..])`
-pub is-bytes : (d x : List ℕ) → Bytes d → Bytes x → length x ≡ 8 → is d (le 8 x 0) ≡ (leb 8 (length d) && same (take 8 d) x)
+pub is-bytes : (d x : List ℕ) → AllBytes d → AllBytes x → length x ≡ 8 → is d (le 8 x 0) ≡ (leb 8 (length d) && same (take 8 d) x)
 unfolding is
 is-bytes d x hd hx e = go (leb 8 (length d)) refl
   where
@@ -63,7 +63,7 @@ after zero s k = refl
 after (suc n) s k = rw (after n s k, getD-drop k s (0 + n) 0, zero-add n)
 
 -- the same for a discriminator that stands in the names
-pub lent-bytes : (names d : List ℕ) (k : ℕ) → Bytes d → Bytes (take 8 (drop k names)) → k + 8 ≤ length names
+pub lent-bytes : (names d : List ℕ) (k : ℕ) → AllBytes d → AllBytes (take 8 (drop k names)) → k + 8 ≤ length names
     → is d (le 8 names k) ≡ (leb 8 (length d) && same (take 8 d) (take 8 (drop k names)))
 lent-bytes names d k hd hx h =
     ap (is d) (sym (within 8 8 (drop k names) (omega arith) ∙ after 8 names k))

@@ -11,20 +11,22 @@ use lib.ListN.{length, getD}
 use Rattle.wire.specs.Le.{le}
 use Rattle.wire.specs.Same.{same}
 use Rattle.wire.proofs.Below.{and-left, and-right}
+use Rattle.ids.specs.Ids.{isWrappedSol}
 use Rattle.ids.specs.Keys.{Key}
 use Rattle.ids.specs.declared.Id.{Id}
 use Rattle.ids.specs.declared.Id.the-variants.{SplToken, Token2022, WrappedSol, ComputeBudget, AssociatedToken, Memo, PumpFun, LaunchLab, PumpSwap, Clmm, Cpmm, AmmV4, Orca, Dlmm, System, Other, Unresolved}
 use Rattle.swaps.specs.declared.Found.{Found}
+use Rattle.swaps.specs.declared.pumpfun.Places.{Places}
 use Rattle.swaps.specs.declared.Found.the-variants.{Leg}
 use Rattle.swaps.specs.Discriminators.{SWAP, SWAP-V2, SWAP2, SWAP-EXACT-OUT, SWAP-EXACT-OUT2, BUY-EXACT-IN, SELL-EXACT-IN, BUY-EXACT-OUT, SELL-EXACT-OUT, BUY-V2, SELL-V2, BUY-EXACT-QUOTE-IN, BUY-EXACT-QUOTE-IN-V2, SELL}
 use Rattle.swaps.specs.Data.{is, isFlag, flag, when}
-use Rattle.swaps.specs.Draft.{plain, stated, pairing, pairBy, inMode}
+use Rattle.swaps.specs.Draft.{bareSwap, stated, pairing, pairBy, inMode}
 use Rattle.swaps.specs.Clmm.{clmmTakes, clmmLeg, clmm}
 use Rattle.swaps.specs.Orca.{orcaTakes, orcaV1, orcaV2, orca}
 use Rattle.swaps.specs.Cpmm.{cpmmLeg, cpmm}
-use Rattle.swaps.specs.Dlmm.{slicesFit, layout, dlmmLeg, dlmm}
+use Rattle.swaps.specs.Dlmm.{slicesFit, swapLayout, dlmmLeg, dlmm}
 use Rattle.swaps.specs.LaunchLab.{modeOf, launchLabLeg, launchLab}
-use Rattle.swaps.specs.PumpFun.{isV2, isV3, isBuy, isExact, isWrapped, pumpFunTakes, pumpFunLeg, pumpFunBy, pumpFun}
+use Rattle.swaps.specs.PumpFun.{isV2, isV3, isBuy, isExact, pumpFunTakes, pumpFunPlaces, pumpFunLeg, pumpFun}
 use Rattle.swaps.specs.PumpSwap.{trackVolume, pumpSwapTakes, pumpSwapLeg, pumpSwap}
 use Rattle.swaps.specs.AmmV4.{ammV4Short, ammV4Long, ammV4}
 use Rattle.swaps.specs.Swap.{byProgram}
@@ -47,7 +49,7 @@ module _ (n : ℕ) where
   unfolding orcaV1 orcaV2
   orca-within a true direction exact x y e =
       let h = leb-true 15 n e in
-      crossed n (same (a (cond direction 7 9)) (a 7)) direction exact 6 4 3 7 9 5 6 x y (omega arith) (omega arith) (omega arith) (omega arith) (omega arith) (omega arith)
+      crossed n (same (a (cond direction 7 9)) (a 7)) direction exact 6 4 3 7 9 5 6 x y (omega arith)
   orca-within a false true exact x y e = let h = leb-true 11 n e in omega arith
   orca-within a false false exact x y e = let h = leb-true 11 n e in omega arith
 
@@ -76,11 +78,11 @@ module _ (n : ℕ) where
   floored false false r s e = let z : _≡_ {A = ℕ} 0 1 = cc in omega arith
 
   dlmm-among : (d : List ℕ) → Among n (dlmm n d)
-  unfolding dlmm layout
+  unfolding dlmm swapLayout
   dlmm-among d =
-      forms n (layout n d) (is d SWAP || is d SWAP2) (is d SWAP-EXACT-OUT || is d SWAP-EXACT-OUT2) (dlmmLeg d) (λ e exact.
+      forms n (swapLayout n d) (is d SWAP || is d SWAP2) (is d SWAP-EXACT-OUT || is d SWAP-EXACT-OUT2) (dlmmLeg d) (λ e exact.
       let h = floored (is d SWAP || is d SWAP-EXACT-OUT) (is d SWAP2 || is d SWAP-EXACT-OUT2) (leb 24 (length d)) (slicesFit n d) e in
-      straight n (leb 24 (length d)) exact 7 0 10 4 5 (le 8 d 8) (le 8 d 16) (omega arith) (omega arith) (omega arith) (omega arith))
+      straight n (leb 24 (length d)) exact 7 0 10 4 5 (le 8 d 8) (le 8 d 16) (omega arith))
 
   launchlab-forms : (t p q r s : Bool) (f : Bool → Bool → Found) → (t ≡ true → (buy exact : Bool) → Among n (f buy exact))
       → Among n (when t (cond p (f true true) (cond q (f false true) (cond r (f true false) (when s (f false false))))))
@@ -95,13 +97,12 @@ module _ (n : ℕ) where
   unfolding launchLabLeg
   launchlab-leg names a d buy exact h = go (leb 24 (length d))
     where
-      s : Within n (pairBy (same (a (cond buy 6 5)) (a 6)) 10 9 (plain 2 4 0 (cond buy 6 5) (cond buy 5 6) exact (le 8 d 8) (le 8 d 16)))
-      s =
-          crossed n (same (a (cond buy 6 5)) (a 6)) buy exact 2 4 0 6 5 10 9 (le 8 d 8) (le 8 d 16) (omega arith) (omega arith) (omega arith) (omega arith) (omega arith)
-          (omega arith)
+      s : Within n (pairBy (same (a (cond buy 6 5)) (a 6)) 10 9 (bareSwap 2 4 0 (cond buy 6 5) (cond buy 5 6) exact (le 8 d 8) (le 8 d 16)))
+      s = crossed n (same (a (cond buy 6 5)) (a 6)) buy exact 2 4 0 6 5 10 9 (le 8 d 8) (le 8 d 16) (omega arith)
 
       go : (u : Bool)
-          → Among n (when u (Leg (inMode (modeOf names (a 3)) (pairBy (same (a (cond buy 6 5)) (a 6)) 10 9 (plain 2 4 0 (cond buy 6 5) (cond buy 5 6) exact (le 8 d 8) (le 8 d 16))))))
+          → Among n (when u (Leg (inMode (modeOf names (a 3))
+          (pairBy (same (a (cond buy 6 5)) (a 6)) 10 9 (bareSwap 2 4 0 (cond buy 6 5) (cond buy 5 6) exact (le 8 d 8) (le 8 d 16))))))
       go true = record { pool = s .pool; trader = s .trader; input = s .input; output = s .output; first = s .first; second = s .second }
       go false = tt
 
@@ -111,38 +112,36 @@ module _ (n : ℕ) where
       launchlab-forms (leb 15 n) (is d BUY-EXACT-IN) (is d SELL-EXACT-IN) (is d BUY-EXACT-OUT) (is d SELL-EXACT-OUT) (launchLabLeg names a d) (λ e buy exact.
       launchlab-leg names a d buy exact (leb-true 15 n e))
 
-  pumpfun-leg : (wrapped buy exact : Bool) (pool user base quote x y : ℕ) → pool < n → user < n → base < n → quote < n → 2 < n
-      → Within n (pumpFunLeg wrapped pool user base quote buy exact x y)
+  pumpfun-leg : (p : Places) (wrapped buy exact : Bool) (x y : ℕ) → (p .pool < n) × (p .user < n) × (p .base < n) × (p .quote < n) × (2 < n)
+      → Within n (pumpFunLeg p wrapped buy exact x y)
   unfolding pumpFunLeg
-  pumpfun-leg wrapped buy exact pool user base quote x y h₁ h₂ h₃ h₄ h₅ =
-      crossed n buy buy exact 8 pool user (cond wrapped user quote) base 2 1 x y h₁ h₂ (go wrapped) h₃ (omega arith) (omega arith)
+  pumpfun-leg p wrapped buy exact x y h =
+      let money : cond wrapped (p .user) (p .quote) < n = go wrapped in
+      crossed n buy buy exact 8 (p .pool) (p .user) (cond wrapped (p .user) (p .quote)) (p .base) 2 1 x y (h .0, h .1, money, h .2, omega arith, omega arith)
     where
-      go : (w : Bool) → cond w user quote < n
-      go true = h₂
-      go false = h₄
+      go : (w : Bool) → cond w (p .user) (p .quote) < n
+      go true = h .1
+      go false = h .3
 
   pumpfun-within : (v2 buy exact wrapped : Bool) (x y : ℕ) → leb (cond v2 (cond buy 27 26) 17) n ≡ true
-      → Within n (cond v2 (pumpFunLeg wrapped 10 13 14 15 buy exact x y) (pumpFunLeg wrapped 5 8 9 10 buy exact x y))
+      → Within n (pumpFunLeg (pumpFunPlaces v2) wrapped buy exact x y)
+  unfolding pumpFunPlaces
   pumpfun-within true true exact wrapped x y e =
       let h = leb-true 27 n e in
-      pumpfun-leg wrapped true exact 10 13 14 15 x y (omega arith) (omega arith) (omega arith) (omega arith) (omega arith)
+      pumpfun-leg (pumpFunPlaces true) wrapped true exact x y (omega arith)
   pumpfun-within true false exact wrapped x y e =
       let h = leb-true 26 n e in
-      pumpfun-leg wrapped false exact 10 13 14 15 x y (omega arith) (omega arith) (omega arith) (omega arith) (omega arith)
+      pumpfun-leg (pumpFunPlaces true) wrapped false exact x y (omega arith)
   pumpfun-within false buy exact wrapped x y e =
       let h = leb-true 17 n e in
-      pumpfun-leg wrapped buy exact 5 8 9 10 x y (omega arith) (omega arith) (omega arith) (omega arith) (omega arith)
-
-  pumpfun-by : (v2 v3 buy exact wrapped : Bool) (d : List ℕ) → Among n (pumpFunBy v2 v3 buy exact wrapped n d)
-  unfolding pumpFunBy
-  pumpfun-by v2 v3 buy exact wrapped d =
-      two n (pumpFunTakes v2 v3 buy n) (leb 24 (length d))
-      (cond v2 (pumpFunLeg wrapped 10 13 14 15 buy exact (le 8 d 8) (le 8 d 16)) (pumpFunLeg wrapped 5 8 9 10 buy exact (le 8 d 8) (le 8 d 16)))
-      (λ e. pumpfun-within v2 buy exact wrapped (le 8 d 8) (le 8 d 16) (and-right (v2 || v3) _ e))
+      pumpfun-leg (pumpFunPlaces false) wrapped buy exact x y (omega arith)
 
   pumpfun-among : (a : ℕ → Key) (d : List ℕ) → Among n (pumpFun a n d)
   unfolding pumpFun
-  pumpfun-among a d = pumpfun-by (isV2 d) (isV3 d) (isBuy d) (isExact d) (isWrapped (a 2)) d
+  pumpfun-among a d =
+      two n (pumpFunTakes (isV2 d) (isV3 d) (isBuy d) n) (leb 24 (length d))
+      (pumpFunLeg (pumpFunPlaces (isV2 d)) (isWrappedSol (a 2)) (isBuy d) (isExact d) (le 8 d 8) (le 8 d 16))
+      (λ e. pumpfun-within (isV2 d) (isBuy d) (isExact d) (isWrappedSol (a 2)) (le 8 d 8) (le 8 d 16) (and-right (isV2 d || isV3 d) _ e))
 
   pumpswap-forms : (t p q r : Bool) (f : Bool → Bool → Found) → (t ≡ true → (buy exact : Bool) → Among n (f buy exact))
       → Among n (when t (cond p (f true true) (cond q (f true false) (when r (f false true)))))
@@ -155,9 +154,9 @@ module _ (n : ℕ) where
   pumpswap-leg : (a : ℕ → Key) (d : List ℕ) (buy exact : Bool) → 17 ≤ n → Among n (pumpSwapLeg a d buy exact)
   unfolding pumpSwapLeg
   pumpswap-leg a d buy exact h =
-      two n (trackVolume d buy) (leb 24 (length d)) (pairBy (same (a (cond buy 6 5)) (a 6)) 4 3 (plain 1 0 1 (cond buy 6 5) (cond buy 5 6) exact (le 8 d 8) (le 8 d 16)))
-      (λ e. crossed n (same (a (cond buy 6 5)) (a 6)) buy exact 1 0 1 6 5 4 3 (le 8 d 8) (le 8 d 16) (omega arith) (omega arith) (omega arith) (omega arith) (omega arith)
-      (omega arith))
+      two n (trackVolume d buy) (leb 24 (length d))
+      (pairBy (same (a (cond buy 6 5)) (a 6)) 4 3 (bareSwap 1 0 1 (cond buy 6 5) (cond buy 5 6) exact (le 8 d 8) (le 8 d 16)))
+      (λ e. crossed n (same (a (cond buy 6 5)) (a 6)) buy exact 1 0 1 6 5 4 3 (le 8 d 8) (le 8 d 16) (omega arith))
 
   -- 21 up, or 17
   seventeen : (t u : Bool) → leb 21 n ≡ t → eqb n 17 ≡ u → (t || u) ≡ true → 17 ≤ n
@@ -168,7 +167,8 @@ module _ (n : ℕ) where
   pumpswap-among : (names : List ℕ) (a : ℕ → Key) (d : List ℕ) → Among n (pumpSwap names a n d)
   unfolding pumpSwap
   pumpswap-among names a d =
-      pumpswap-forms (pumpSwapTakes n) (is d BUY-EXACT-QUOTE-IN || is d BUY-EXACT-QUOTE-IN-V2) (is d (le 8 names 16) || is d BUY-V2) (is d SELL || is d SELL-V2) (pumpSwapLeg a d)
+      pumpswap-forms (pumpSwapTakes n)
+      (is d BUY-EXACT-QUOTE-IN || is d BUY-EXACT-QUOTE-IN-V2) (is d (le 8 names 16) || is d BUY-V2) (is d SELL || is d SELL-V2) (pumpSwapLeg a d)
       (λ e buy exact. pumpswap-leg a d buy exact (seventeen (leb 21 n) (eqb n 17) refl refl e))
 
   amm-forms : (t p q r : Bool) (x y : Found) → ((t && p) ≡ true → Among n x) → ((q && r) ≡ true → Among n y) → Among n (cond (t && p) x (when (q && r) y))
@@ -182,11 +182,11 @@ module _ (n : ℕ) where
 
   amm-long : (tag : ℕ) (d : List ℕ) (t : Bool) → eqb n 17 ≡ t → 17 ≤ n
       → Among n (when (leb 17 (length d)) (Leg (stated 4 1 (17 - cond t 1 0) (15 - cond t 1 0) (16 - cond t 1 0) (eqb tag 9) (le 8 d 1) (le 8 d 9))))
-  amm-long tag d true e h = straight n (leb 17 (length d)) (eqb tag 9) 4 1 16 14 15 (le 8 d 1) (le 8 d 9) (omega arith) (omega arith) (omega arith) (omega arith)
+  amm-long tag d true e h = straight n (leb 17 (length d)) (eqb tag 9) 4 1 16 14 15 (le 8 d 1) (le 8 d 9) (omega arith)
   amm-long tag d false e h =
       let f = eqb-false n 17 e in
       let k : 17 < n = omega arith in
-      straight n (leb 17 (length d)) (eqb tag 9) 4 1 17 15 16 (le 8 d 1) (le 8 d 9) (omega arith) (omega arith) (omega arith) (omega arith)
+      straight n (leb 17 (length d)) (eqb tag 9) 4 1 17 15 16 (le 8 d 1) (le 8 d 9) (omega arith)
 
   amm-among : (d : List ℕ) → Among n (ammV4 n d)
   unfolding ammV4
@@ -195,7 +195,7 @@ module _ (n : ℕ) where
       amm-forms (eqb tag 16 || eqb tag 17) (leb 8 n) (eqb tag 9 || eqb tag 11) (leb 17 n) (ammV4Short tag d) (ammV4Long tag n d)
       (λ e.
       let h = leb-true 8 n (and-right (eqb tag 16 || eqb tag 17) (leb 8 n) e) in
-      straight n (leb 17 (length d)) (eqb tag 16) 4 1 7 5 6 (le 8 d 1) (le 8 d 9) (omega arith) (omega arith) (omega arith) (omega arith))
+      straight n (leb 17 (length d)) (eqb tag 16) 4 1 7 5 6 (le 8 d 1) (le 8 d 9) (omega arith))
       (λ e. amm-long tag d (eqb n 17) refl (leb-true 17 n (and-right (eqb tag 9 || eqb tag 11) (leb 17 n) e)))
 
   -- whichever the program

@@ -5,11 +5,10 @@ use mathlib.Core.Bool.{Bool, true, false, cond, _&&_}
 use mathlib.Core.List.{List, [], _∷_, _++_}
 use mathlib.Core.Option.{Option, none, some, Option·none-ne-some, Option·some-injective}
 use Prim.Native.Nat.{ℕ, suc, _+_, _*_, _-_, _≤_, _<_}
-use native.Mathlib.Numerals.{add-one}
 use native.Mathlib.Omega.{arith}
 use lib.Dec.{eqb}
 use lib.ListN.{length, take, drop, set, length-append}
-use lib.Seq.{sets}
+use lib.Seq.{sets, drop-drop}
 use Rattle.wire.specs.Le.{leBytes}
 use Rattle.wire.specs.Same.{same}
 use Rattle.wire.proofs.Same.{same-true}
@@ -19,12 +18,13 @@ use Rattle.ids.specs.declared.Id.{Id}
 use Rattle.ids.specs.Keys.{Key, zeroKey, isZero, keyOf, account}
 use Rattle.ids.specs.Mints.{isMint, mintOf, mintField}
 use Rattle.ids.proofs.Keys.{key-length, account-length, mint-length}
+use Rattle.pack.specs.Items.{rows}
 use Rattle.swaps.specs.declared.Swap.{Swap}
 use Rattle.swaps.specs.declared.Found.{Found}
 use Rattle.swaps.specs.declared.Found.the-variants.{Nothing, Leg}
 use Rattle.swaps.specs.Leg.{RouteLeg, contains, explicit, orElse, legWith, valued}
 use Rattle.swaps.specs.Swap.{byProgram, swap}
-use Rattle.swaps.specs.Row.{legWidth, keyBytes, endBytes, legRow, side, keysFrom}
+use Rattle.swaps.specs.Row.{legWidth, keyBytes, endBytes, legRow, side}
 
 -- a key that is not zero is a mint, and the zero key is none
 is-key : (key : Key) → isZero key ≡ false → length key ≡ 32 → isMint key ≡ true
@@ -50,7 +50,8 @@ unfolding side mintOf
 side-mint m paired key h = mint-by (isMint m) paired (isZero key) m key refl refl h
 
 -- a mint's field has 33 bytes, whether the mint is known or the pair's
-side-length : (o : Option Key) (paired : Bool) (key : Key) → length (mintField o) ≡ 33 → length key ≡ 32 → length (mintField (orElse o (explicit paired key))) ≡ 33
+side-length : (o : Option Key) (paired : Bool) (key : Key) → length (mintField o) ≡ 33 → length key ≡ 32
+    → length (mintField (orElse o (explicit paired key))) ≡ 33
 side-length (some m) paired key f h = f
 side-length none false key f h = f
 side-length none true key f h = go (isZero key)
@@ -71,17 +72,20 @@ fields-in : (l : List ℕ) (i p : ℕ) (k m n e : List ℕ) → length k ≡ 160
 fields-in l i p k m n e hk hm hn = simp (sets-append, length-append, leBytes-length, hk, hm, hn)
 
 -- a leg's row has the width of the table, where keys and known mints have theirs
-module _ (i : ℕ) (program : Key) (κ : ℕ → Key) (known-in known-out : Option Key) (pools : List Key) (hp : length program ≡ 32) (long : (j : ℕ) → length (κ j) ≡ 32) (hi : length (mintField known-in) ≡ 33) (ho : length (mintField known-out) ≡ 33) where
+module _ (i : ℕ) (program : Key) (κ : ℕ → Key) (known-in known-out : Option Key) (pools : List Key)
+    (hp : length program ≡ 32) (long : (j : ℕ) → length (κ j) ≡ 32) (hi : length (mintField known-in) ≡ 33) (ho : length (mintField known-out) ≡ 33) where
   row-length : (s : Swap) → length (legRow i program (legWith κ known-in known-out pools s)) ≡ legWidth
   unfolding legRow endBytes
   row-length s =
-      let k = keys-length program (κ (s .pool)) (κ (s .trader)) (κ (s .input)) (κ (s .output)) hp (long (s .pool)) (long (s .trader)) (long (s .input)) (long (s .output)) in
+      let five = keys-length program (κ (s .pool)) (κ (s .trader)) (κ (s .input)) (κ (s .output)) in
+      let k = five hp (long (s .pool)) (long (s .trader)) (long (s .input)) (long (s .output)) in
       let m = side-length known-in (s .paired) (κ (s .first)) hi (long (s .first)) in
       let n = side-length known-out (s .paired) (κ (s .second)) ho (long (s .second)) in
       simp (length-append, leBytes-length, k, m, n)
 
 -- so has the row of a leg that an instruction is
-pub leg-length : (names : List ℕ) (κ : ℕ → Key) → ((j : ℕ) → length (κ j) ≡ 32) → (id : Id) (accounts bytes : List ℕ) (μ : Key → Option Key) → ((k : Key) → length (mintField (μ k)) ≡ 33) → (pools : List Key) {l : RouteLeg}
+pub leg-length : (names : List ℕ) (κ : ℕ → Key) → ((j : ℕ) → length (κ j) ≡ 32) → (id : Id) (accounts bytes : List ℕ)
+    (μ : Key → Option Key) → ((k : Key) → length (mintField (μ k)) ≡ 33) → (pools : List Key) {l : RouteLeg}
     → swap names κ id accounts bytes μ pools ≡ some l → (i : ℕ) (program : Key) → length program ≡ 32 → length (legRow i program l) ≡ legWidth
 unfolding swap valued
 leg-length names κ long id accounts bytes μ field pools {l} e i program hp = go (byProgram names (account κ accounts) id (length accounts) bytes) e
@@ -122,24 +126,27 @@ row-in l i ks program spent bought pools s h =
     ∙ sets-whole l (legRow i (keyOf ks program) (legWith (keyOf ks) (mintOf spent) (mintOf bought) pools s))
     (row-length i (keyOf ks program) (keyOf ks) (mintOf spent) (mintOf bought) pools (k program) k (mint-length spent) (mint-length bought) s ∙ sym h)
 
-module _ (s : List ℕ) (key : Key) (rows i : ℕ) where
+-- the rows from row i on of the n rows of a run
+module _ (s : List ℕ) (key : Key) (n i : ℕ) where
   -- the next row is the key
-  pub pool-here : i < rows → same (take 32 (drop (i * 32) s)) key ≡ true → contains (keysFrom s (rows - i) i) key ≡ true
-  unfolding keysFrom contains
+  pub pool-here : i < n → same (take 32 (drop (i * 32) s)) key ≡ true → contains (rows 32 (n - i) (drop (i * 32) s)) key ≡ true
+  unfolding rows contains
   pool-here h e =
-      let t : rows - i ≡ suc (rows - (i + 1)) = omega arith in
+      let t : n - i ≡ suc (n - (i + 1)) = omega arith in
       rw (t, e)
 
   -- it is not
-  pub pool-on : i < rows → same (take 32 (drop (i * 32) s)) key ≡ false → contains (keysFrom s (rows - (i + 1)) (i + 1)) key ≡ contains (keysFrom s (rows - i) i) key
-  unfolding keysFrom contains
+  pub pool-on : i < n → same (take 32 (drop (i * 32) s)) key ≡ false
+      → contains (rows 32 (n - (i + 1)) (drop ((i + 1) * 32) s)) key ≡ contains (rows 32 (n - i) (drop (i * 32) s)) key
+  unfolding rows contains
   pool-on h e =
-      let t : rows - i ≡ suc (rows - (i + 1)) = omega arith in
-      rw (t, e, add-one i)
+      let t : n - i ≡ suc (n - (i + 1)) = omega arith in
+      let d : i * 32 + 32 ≡ (i + 1) * 32 = omega arith in
+      rw (t, e, drop-drop 32 (i * 32) s, d)
 
   -- there is none
-  pub pool-none : rows ≤ i → contains (keysFrom s (rows - i) i) key ≡ false
-  unfolding keysFrom contains
+  pub pool-none : n ≤ i → contains (rows 32 (n - i) (drop (i * 32) s)) key ≡ false
+  unfolding rows contains
   pool-none h =
-      let t : rows - i ≡ 0 = omega arith in
+      let t : n - i ≡ 0 = omega arith in
       rw t

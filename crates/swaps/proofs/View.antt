@@ -1,4 +1,4 @@
--- A leg in numbers, its accounts as index bytes, is the original's leg: index bytes stand for the keys that `account` gives, since no place passes the accounts.
+-- A leg in numbers is the original's leg: an index byte stands for the key that `account` gives at its place, since no place passes the accounts.
 -- Assumes nothing.
 use mathlib.Core.Path.{_≡_, refl, sym, ap, _∙_}
 use mathlib.Core.Bool.{false}
@@ -15,7 +15,7 @@ use Rattle.swaps.specs.declared.Swap.{Swap}
 use Rattle.swaps.specs.declared.Found.{Found}
 use Rattle.swaps.specs.declared.Found.the-variants.{Nothing, Leg}
 use Rattle.swaps.specs.Leg.{legWith, valued}
-use Rattle.swaps.specs.Swap.{trades, byProgram, swap, indexed, legOf}
+use Rattle.swaps.specs.Swap.{trades, byProgram, swap, indexed, legInNumbers}
 use Rattle.swaps.proofs.Among.{Among}
 use Rattle.swaps.proofs.Places.{among}
 
@@ -48,23 +48,23 @@ other names a Other n d e = refl
 other names a Unresolved n d e = refl
 
 -- so `leg` answers nothing
-pub no-trade : (names : List ℕ) (κ : ℕ → Key) (id : Id) (accounts bytes : List ℕ) → trades id ≡ false → legOf names κ id accounts bytes ≡ Nothing
+pub no-trade : (names : List ℕ) (κ : ℕ → Key) (id : Id) (accounts bytes : List ℕ) → trades id ≡ false → legInNumbers names κ id accounts bytes ≡ Nothing
 no-trade names κ id accounts bytes e = ap (indexed accounts) (other names (account κ accounts) id (length accounts) bytes e)
 
 module _ (names : List ℕ) (κ : ℕ → Key) (id : Id) (accounts bytes : List ℕ) (μ : Key → Option Key) (pools : List Key) where
   -- what `leg` answers is `swap`
-  pub leg-is-swap : valued κ μ pools (legOf names κ id accounts bytes) ≡ swap names κ id accounts bytes μ pools
+  pub leg-is-swap : valued κ μ pools (legInNumbers names κ id accounts bytes) ≡ swap names κ id accounts bytes μ pools
   unfolding swap
   leg-is-swap =
       viewed κ μ pools accounts (byProgram names (account κ accounts) id (length accounts) bytes) (among (length accounts) names (account κ accounts) id bytes)
 
   -- no leg
-  pub no-leg : legOf names κ id accounts bytes ≡ Nothing → swap names κ id accounts bytes μ pools ≡ none
+  pub no-leg : legInNumbers names κ id accounts bytes ≡ Nothing → swap names κ id accounts bytes μ pools ≡ none
   unfolding valued
   no-leg e = sym leg-is-swap ∙ ap (valued κ μ pools) e
 
   -- a leg, with the mints that are known of its input and output account handed in as bytes: `put_leg` writes the row of this very leg
-  pub a-leg : (s : Swap) (spent bought : List ℕ) → legOf names κ id accounts bytes ≡ Leg s → mintOf spent ≡ μ (κ (s .input)) → mintOf bought ≡ μ (κ (s .output))
+  pub a-leg : (s : Swap) (spent bought : List ℕ) → legInNumbers names κ id accounts bytes ≡ Leg s → mintOf spent ≡ μ (κ (s .input)) → mintOf bought ≡ μ (κ (s .output))
       → swap names κ id accounts bytes μ pools ≡ some (legWith κ (mintOf spent) (mintOf bought) pools s)
   unfolding valued
   a-leg s spent bought e f g = sym leg-is-swap ∙ ap (valued κ μ pools) e ∙ rw (f, g)

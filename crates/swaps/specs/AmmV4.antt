@@ -10,11 +10,11 @@ use Rattle.swaps.specs.declared.Found.the-variants.{Leg}
 use Rattle.swaps.specs.Data.{when, both}
 use Rattle.swaps.specs.Draft.{stated}
 
--- tags 16 and 17
+-- the branch for `Some(16 | 17)`
 abbrev pub ammV4Short : ℕ → List ℕ → Found
 ammV4Short tag d = both d 1 (λ first second. Leg (stated 4 1 7 5 6 (eqb tag 16) first second))
 
--- tags 9 and 11: with 17 accounts `target_orders` is not among them, and those after it stand one place earlier
+-- the branch for `Some(9 | 11)`; `shift`: with 17 accounts `target_orders` is not among them, and those after it stand one place earlier
 abbrev pub ammV4Long : ℕ → ℕ → List ℕ → Found
 ammV4Long tag n d =
     let shift : ℕ = cond (eqb n 17) 1 0 in

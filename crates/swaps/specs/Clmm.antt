@@ -9,16 +9,16 @@ use Rattle.swaps.specs.declared.Found.{Found}
 use Rattle.swaps.specs.declared.Found.the-variants.{Leg}
 use Rattle.swaps.specs.Discriminators.{SWAP, SWAP-V2}
 use Rattle.swaps.specs.Data.{is, isFlag, flag, when, both}
-use Rattle.swaps.specs.Draft.{plain, pairing}
+use Rattle.swaps.specs.Draft.{bareSwap, pairing}
 
--- `swap` with 10 accounts or `swap_v2` with 13
+-- the branch's condition: `swap_disc` with 10 accounts or `swap_v2` with 13
 abbrev pub clmmTakes : ℕ → List ℕ → Bool
 clmmTakes n d = (is d SWAP || is d SWAP-V2) && leb (cond (is d SWAP-V2) 13 10) n
 
--- the leg: `swap_v2` alone names its mints
+-- its leg; only `swap_v2` has an `explicit_pair`
 unfoldable pub clmmLeg : Bool → Bool → ℕ → ℕ → Swap
 clmmLeg v2 exact amount threshold =
-    let s = plain 5 2 0 3 4 exact amount threshold in
+    let s = bareSwap 5 2 0 3 4 exact amount threshold in
     cond v2 (pairing s 11 12) s
 
 -- `swap` for RAYDIUM_CLMM_PROGRAM_ID: n accounts, data d

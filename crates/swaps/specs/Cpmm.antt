@@ -10,7 +10,7 @@ use Rattle.swaps.specs.declared.Found.the-variants.{Leg}
 use Rattle.swaps.specs.Data.{is, when, both}
 use Rattle.swaps.specs.Draft.{stated, pairing}
 
--- exact-out exchanges the two numbers
+-- its leg, `first` and `second` exchanged where it is not `exact_in`; the `explicit_pair` is accounts 10 and 11
 abbrev pub cpmmLeg : List ℕ → Bool → Found
 cpmmLeg d exact = both d 8 (λ first second. Leg (pairing (stated 3 3 0 4 5 exact first second) 10 11))
 

@@ -17,7 +17,7 @@ is d x = leb 8 (length d) && eqb (le 8 d 0) x
 unfoldable pub isFlag : List ℕ → ℕ → Bool
 isFlag d at = ltb at (length d) && ltb (getD d at 0) 2
 
--- what it then is
+-- the bool that it then is
 abbrev pub flag : List ℕ → ℕ → Bool
 flag d at = eqb (getD d at 0) 1
 

@@ -4,9 +4,9 @@ use Prim.Native.Nat.{ℕ}
 use mathlib.Core.Bool.{Bool, true, false, cond}
 use Rattle.swaps.specs.declared.Swap.{Swap}
 
--- protocol, pool, trader, input, output, exact-in, amount and threshold; no explicit pair of mints, no mode
-abbrev pub plain : ℕ → ℕ → ℕ → ℕ → ℕ → Bool → ℕ → ℕ → Swap
-plain protocol pool trader input output exact amount threshold =
+-- `(protocol, pool, trader, input, output, exact_in, amount, threshold)`, with no `explicit_pair` and no `mode`
+abbrev pub bareSwap : ℕ → ℕ → ℕ → ℕ → ℕ → Bool → ℕ → ℕ → Swap
+bareSwap protocol pool trader input output exact amount threshold =
     record {
       protocol = protocol;
       pool = pool;
@@ -22,12 +22,12 @@ plain protocol pool trader input output exact amount threshold =
       second = 0;
     }
 
--- the same for an instruction that names its numbers the other way round when it is exact-out
+-- the same where the data's `first` and `second` are amount and threshold when it is `exact_in`, and threshold and amount when not
 abbrev pub stated : ℕ → ℕ → ℕ → ℕ → ℕ → Bool → ℕ → ℕ → Swap
 stated protocol pool trader input output exact first second =
-    plain protocol pool trader input output exact (cond exact first second) (cond exact second first)
+    bareSwap protocol pool trader input output exact (cond exact first second) (cond exact second first)
 
--- with an explicit pair: the accounts that are the mints of the input and of the output
+-- with `explicit_pair` Some((x, y)): the accounts that are the mints of the input and of the output
 abbrev pub pairing : Swap → ℕ → ℕ → Swap
 pairing s x y =
     record {
@@ -45,11 +45,11 @@ pairing s x y =
       second = y;
     }
 
--- with the pair x and y if the test holds, else y and x
+-- with the pair (x, y) if the test holds, else (y, x)
 abbrev pub pairBy : Bool → ℕ → ℕ → Swap → Swap
 pairBy test x y s = pairing s (cond test x y) (cond test y x)
 
--- with a mode
+-- with `mode` m
 abbrev pub inMode : ℕ → Swap → Swap
 inMode m s =
     record {

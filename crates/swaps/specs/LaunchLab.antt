@@ -11,17 +11,19 @@ use Rattle.swaps.specs.declared.Found.{Found}
 use Rattle.swaps.specs.declared.Found.the-variants.{Leg}
 use Rattle.swaps.specs.Discriminators.{BUY-EXACT-IN, SELL-EXACT-IN, BUY-EXACT-OUT, SELL-EXACT-OUT}
 use Rattle.swaps.specs.Data.{is, when, both}
-use Rattle.swaps.specs.Draft.{plain, pairBy, inMode}
+use Rattle.swaps.specs.Draft.{bareSwap, pairBy, inMode}
 
 -- `stonkfun_mode_from_platform_config`: the lent standard config gives 1, the reward config 2, any other key 0
 unfoldable pub modeOf : List ℕ → Key → ℕ
 modeOf names config = cond (same config (take 32 (drop 24 names))) 1 (cond (same config (take 32 (drop 56 names))) 2 0)
 
--- the pair goes by the input's key, not by the direction
+-- its leg; the `explicit_pair` goes by `input == a(6)`, two keys, and not by the direction
 unfoldable pub launchLabLeg : List ℕ → (ℕ → Key) → List ℕ → Bool → Bool → Found
 launchLabLeg names a d buy exact =
     let input : ℕ = cond buy 6 5 in
-    both d 8 (λ amount threshold. Leg (inMode (modeOf names (a 3)) (pairBy (same (a input) (a 6)) 10 9 (plain 2 4 0 input (cond buy 5 6) exact amount threshold))))
+    let output : ℕ = cond buy 5 6 in
+    both d 8 (λ amount threshold.
+    Leg (inMode (modeOf names (a 3)) (pairBy (same (a input) (a 6)) 10 9 (bareSwap 2 4 0 input output exact amount threshold))))
 
 -- `swap` for RAYDIUM_LAUNCHLAB_PROGRAM_ID: n accounts, a their keys, data d
 unfoldable pub launchLab : List ℕ → (ℕ → Key) → ℕ → List ℕ → Found

@@ -11,7 +11,8 @@ use Rattle.swaps.specs.declared.Swap.{Swap}
 use Rattle.swaps.specs.declared.Found.{Found}
 use Rattle.swaps.specs.declared.Found.the-variants.{Nothing, Leg}
 
--- protocol 1 to 8 in the order of `SwapProtocol`; mode 0 none, 1 standard, 2 reward
+-- `exact` is `amount_specified_is_input`, `amount` and `threshold` are `specified_amount` and `other_amount_threshold`;
+-- `protocol` is 1 to 8 in the order of `SwapProtocol`, `mode` is `stonkfun_mode`: 0 none, 1 standard, 2 reward
 pub record RouteLeg : Type 0 where
   pub protocol : ℕ
   pub pool : Key
@@ -26,25 +27,25 @@ pub record RouteLeg : Type 0 where
   pub mode : ℕ
   pub graduated : Bool
 
--- a key that is not zero
+-- a key that is not zero: `.filter(|mint| *mint != Pubkey::default())`
 abbrev pub nonZero : Key → Option Key
 nonZero k = cond (isZero k) none (some k)
 
--- the explicit pair's key, where there is a pair and the key is not zero
+-- one side of `explicit_pair`, where there is a pair and its key is not zero
 abbrev pub explicit : Bool → Key → Option Key
 explicit paired k = cond paired (nonZero k) none
 
--- `or_else`
+-- `or_else`: the first, or the second where there is no first
 abbrev pub orElse : Option Key → Option Key → Option Key
 orElse none o = o
 orElse (some k) o = some k
 
--- `contains`
+-- `graduated.contains(&pool)`: whether one of the keys is k
 unfoldable pub contains : List Key → Key → Bool
 contains [] k = false
 contains (p ∷ ps) k = same p k || contains ps k
 
--- the leg that numbers are: κ gives the key of each account; then the mints known of the input and of the output account, and the graduated pools
+-- the `RouteSwapLeg` at the end of `swap`: κ gives the key of each account; then the mints known of the input and of the output, and the graduated pools
 abbrev pub legWith : (ℕ → Key) → Option Key → Option Key → List Key → Swap → RouteLeg
 legWith κ known-in known-out pools s =
     record {
@@ -62,7 +63,7 @@ legWith κ known-in known-out pools s =
       graduated = eqb (s .protocol) 3 && contains pools (κ (s .pool));
     }
 
--- with the known mints looked up
+-- the same with `mints.get(&input)` and `mints.get(&output)`, which μ answers
 unfoldable pub valued : (ℕ → Key) → (Key → Option Key) → List Key → Found → Option RouteLeg
 valued κ μ pools Nothing = none
 valued κ μ pools (Leg s) = some (legWith κ (μ (κ (s .input))) (μ (κ (s .output))) pools s)

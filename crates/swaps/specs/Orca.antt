@@ -11,19 +11,19 @@ use Rattle.swaps.specs.declared.Found.{Found}
 use Rattle.swaps.specs.declared.Found.the-variants.{Leg}
 use Rattle.swaps.specs.Discriminators.{SWAP, SWAP-V2}
 use Rattle.swaps.specs.Data.{is, isFlag, flag, when, both}
-use Rattle.swaps.specs.Draft.{plain, pairBy}
+use Rattle.swaps.specs.Draft.{bareSwap, pairBy}
 
--- `swap`
+-- the leg of `swap_disc`
 unfoldable pub orcaV1 : Bool → Bool → ℕ → ℕ → Swap
-orcaV1 direction exact amount threshold = plain 6 2 1 (cond direction 3 5) (cond direction 5 3) exact amount threshold
+orcaV1 direction exact amount threshold = bareSwap 6 2 1 (cond direction 3 5) (cond direction 5 3) exact amount threshold
 
--- `swap_v2`: the pair goes by the input's key, not by the direction
+-- the leg of `swap_v2`; the `explicit_pair` goes by `input == a(7)`, two keys, and not by the direction
 unfoldable pub orcaV2 : (ℕ → Key) → Bool → Bool → ℕ → ℕ → Swap
 orcaV2 a direction exact amount threshold =
     let input : ℕ = cond direction 7 9 in
-    pairBy (same (a input) (a 7)) 5 6 (plain 6 4 3 input (cond direction 9 7) exact amount threshold)
+    pairBy (same (a input) (a 7)) 5 6 (bareSwap 6 4 3 input (cond direction 9 7) exact amount threshold)
 
--- `swap` with 11 accounts or `swap_v2` with 15, and a direction
+-- what is asked first: `swap_disc` with 11 accounts or `swap_v2` with 15, and a `direction`
 abbrev pub orcaTakes : ℕ → List ℕ → Bool
 orcaTakes n d = (is d SWAP || is d SWAP-V2) && (isFlag d 41 && leb (cond (is d SWAP-V2) 15 11) n)
 

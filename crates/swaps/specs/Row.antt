@@ -1,9 +1,8 @@
--- A row of table 3.
+-- A row of table 3, field by field as docs/FORMAT.md lists them.
 -- Assumes nothing.
-use Prim.Native.Nat.{ℕ, zero, suc, _*_, _/_}
+use Prim.Native.Nat.{ℕ}
 use mathlib.Core.Bool.{Bool, cond}
 use mathlib.Core.List.{List, [], _∷_, _++_}
-use lib.ListN.{length, take, drop}
 use Rattle.wire.specs.Le.{leBytes}
 use Rattle.ids.specs.Keys.{Key}
 use Rattle.ids.specs.Mints.{isMint, mintField}
@@ -32,15 +31,6 @@ legRow invocation program l =
     ++ mintField (l .inputMint) ++ mintField (l .outputMint)
     ++ endBytes (l .exact) (l .amount) (l .threshold) (l .mode) (l .graduated)
 
--- which bytes stand in a mint's field: the mint handed in, else the pair's key, else the stand-in
+-- the bytes that a mint's field is made of: the mint handed in, else the pair's key, else the stand-in
 unfoldable pub side : List ℕ → Bool → Key → Key → Key
 side m paired key blank = cond (isMint m) m (cond paired key blank)
-
--- the m keys from row i on of a run of 32-byte rows
-unfoldable pub keysFrom : List ℕ → ℕ → ℕ → List Key
-keysFrom s zero i = []
-keysFrom s (suc m) i = take 32 (drop (i * 32) s) ∷ keysFrom s m (suc i)
-
--- the pools that a run of 32-byte rows is
-abbrev pub poolsOf : List ℕ → List Key
-poolsOf s = keysFrom s (length s / 32) 0

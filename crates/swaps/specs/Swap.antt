@@ -1,13 +1,11 @@
 -- The original's `swap` as a function on values.
 -- Assumes nothing.
 use Prim.Native.Nat.{ℕ}
-use mathlib.Core.Bool.{Bool, _&&_}
+use mathlib.Core.Bool.{Bool, true, false}
 use mathlib.Core.List.{List}
 use mathlib.Core.Option.{Option}
-use lib.Dec.{leb, ltb}
 use lib.ListN.{length, getD}
 use Rattle.ids.specs.Keys.{Key, account}
-use Rattle.ids.specs.Which.{numberOf}
 use Rattle.ids.specs.declared.Id.{Id}
 use Rattle.ids.specs.declared.Id.the-variants.{SplToken, Token2022, WrappedSol, ComputeBudget, AssociatedToken, Memo, PumpFun, LaunchLab, PumpSwap, Clmm, Cpmm, AmmV4, Orca, Dlmm, System, Other, Unresolved}
 use Rattle.swaps.specs.declared.Found.{Found}
@@ -22,11 +20,27 @@ use Rattle.swaps.specs.PumpSwap.{pumpSwap}
 use Rattle.swaps.specs.AmmV4.{ammV4}
 use Rattle.swaps.specs.Leg.{RouteLeg, valued}
 
--- one of the eight protocols' programs, which stand together in the table of ids
+-- the eight protocols' programs: the only ones that `swap` compares with
 unfoldable pub trades : Id → Bool
-trades id = leb 6 (numberOf id) && ltb (numberOf id) 14
+trades Clmm = true
+trades Orca = true
+trades Cpmm = true
+trades Dlmm = true
+trades LaunchLab = true
+trades PumpFun = true
+trades PumpSwap = true
+trades AmmV4 = true
+trades SplToken = false
+trades Token2022 = false
+trades WrappedSol = false
+trades ComputeBudget = false
+trades AssociatedToken = false
+trades Memo = false
+trades System = false
+trades Other = false
+trades Unresolved = false
 
--- the protocol's own function, by the program: names, the instruction's accounts as keys, their number, its data
+-- the branch of `swap` for a program, each a definition of its own: names, the accounts as keys, the program, how many accounts, the data
 unfoldable pub byProgram : List ℕ → (ℕ → Key) → Id → ℕ → List ℕ → Found
 byProgram names a Clmm n d = clmm n d
 byProgram names a Orca n d = orca a n d
@@ -50,7 +64,7 @@ byProgram names a Unresolved n d = Nothing
 unfoldable pub swap : List ℕ → (ℕ → Key) → Id → List ℕ → List ℕ → (Key → Option Key) → List Key → Option RouteLeg
 swap names κ id accounts bytes μ pools = valued (account κ accounts) μ pools (byProgram names (account κ accounts) id (length accounts) bytes)
 
--- places become the index bytes that stand there
+-- places become the index bytes that stand there: `ix.accounts.get(index)`
 abbrev pub indexed : List ℕ → Found → Found
 indexed accounts Nothing = Nothing
 indexed accounts (Leg s) =
@@ -70,5 +84,5 @@ indexed accounts (Leg s) =
     })
 
 -- a leg in numbers, its accounts as index bytes
-abbrev pub legOf : List ℕ → (ℕ → Key) → Id → List ℕ → List ℕ → Found
-legOf names κ id accounts bytes = indexed accounts (byProgram names (account κ accounts) id (length accounts) bytes)
+abbrev pub legInNumbers : List ℕ → (ℕ → Key) → Id → List ℕ → List ℕ → Found
+legInNumbers names κ id accounts bytes = indexed accounts (byProgram names (account κ accounts) id (length accounts) bytes)

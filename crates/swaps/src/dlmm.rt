@@ -8,7 +8,7 @@ use crate::draft::stated;
 use crate::fields::is_either;
 ghost use mathlib.Core.Path.{_≡_};
 ghost use Prim.Native.Nat.{_≤_};
-ghost use Rattle.swaps.specs.Dlmm.{tagSize, slices as slicesOf, slicesFit, layout as layoutOf, dlmm, dlmmLeg};
+ghost use Rattle.swaps.specs.Dlmm.{tagSize, slices as slicesOf, slicesFit, swapLayout, dlmm, dlmmLeg};
 
 // The bytes of a slice's tag, 0 for a tag that is none.
 fn tag_size(tag: u8) -> usize
@@ -71,8 +71,8 @@ fn slices_fit(n: usize, data: &[u8]) -> bool
 }
 
 // `validate_swap_layout`, but for the price-impact forms, which make no leg.
-fn layout(n: usize, data: &[u8]) -> bool
-    ensures { λ r. ⌜ r ≡ layoutOf n (now («data» .entry)) ⌝ }
+fn swap_layout(n: usize, data: &[u8]) -> bool
+    ensures { λ r. ⌜ r ≡ swapLayout n (now («data» .entry)) ⌝ }
 {
     if is_either(data, SWAP, SWAP_EXACT_OUT) {
         if n < 15 {
@@ -110,7 +110,7 @@ fn draft(data: &[u8], exact: bool) -> Found
 pub fn leg(n: usize, data: &[u8]) -> Found
     ensures { λ r. ⌜ r ≡ dlmm n (now («data» .entry)) ⌝ }
 {
-    if !layout(n, data) {
+    if !swap_layout(n, data) {
         return Found::Nothing;
     }
     if is_either(data, SWAP, SWAP2) {

@@ -1,7 +1,7 @@
 // A leg's numbers, put together. An account is a place among the instruction's accounts.
 use crate::Swap;
 ghost use mathlib.Core.Path.{_≡_};
-ghost use Rattle.swaps.specs.Draft.{plain as plainOf, stated as statedOf, pairing as pairingOf, pairBy, inMode};
+ghost use Rattle.swaps.specs.Draft.{bareSwap, stated as statedOf, pairing as pairingOf, pairBy, inMode};
 
 // A leg with no explicit pair of mints and no mode.
 pub(crate) fn plain(
@@ -14,7 +14,7 @@ pub(crate) fn plain(
     amount: u64,
     threshold: u64,
 ) -> Swap
-    ensures { λ r. ⌜ r ≡ plainOf protocol pool trader input output exact amount threshold ⌝ }
+    ensures { λ r. ⌜ r ≡ bareSwap protocol pool trader input output exact amount threshold ⌝ }
 {
     Swap {
         protocol,

@@ -51,7 +51,9 @@ pub(crate) fn account<'a>(
     accounts: &[u8],
     place: usize,
 ) -> &'a [u8]
-    ensures { λ r. ⌜ now r ≡ cond (ltb place (length (now (accounts .entry)))) (keyAt (now (keys .entry)) (now (blank .entry)) (getD (now (accounts .entry)) place 0)) (now (blank .entry)) ⌝ }
+    ensures { λ r.
+        let named = keyAt (now (keys .entry)) (now (blank .entry)) (getD (now (accounts .entry)) place 0) in
+        ⌜ now r ≡ cond (ltb place (length (now (accounts .entry)))) named (now (blank .entry)) ⌝ }
 {
     if place < accounts.len() {
         ids::key(keys, blank, accounts[place] as usize)
@@ -62,7 +64,9 @@ pub(crate) fn account<'a>(
 
 // Whether two accounts of an instruction are one key.
 pub(crate) fn same_account(keys: &[u8], accounts: &[u8], x: usize, y: usize) -> bool
-    ensures { λ r. ⌜ r ≡ same (accountOf (keyOf (now (keys .entry))) (now (accounts .entry)) x) (accountOf (keyOf (now (keys .entry))) (now (accounts .entry)) y) ⌝ }
+    ensures { λ r.
+        let a = accountOf (keyOf (now (keys .entry))) (now (accounts .entry)) in
+        ⌜ r ≡ same (a x) (a y) ⌝ }
 {
     let blank = [0u8; 32];
     wire::equal(

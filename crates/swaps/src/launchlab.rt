@@ -52,7 +52,9 @@ fn mode_of(names: &[u8], keys: &[u8], accounts: &[u8]) -> u8
 
 // The pair goes by the input's key, so equal token accounts flip it.
 fn draft(names: &[u8], keys: &[u8], accounts: &[u8], data: &[u8], buy: bool, exact: bool) -> Found
-    ensures { λ r. ⌜ r ≡ launchLabLeg (now (names .entry)) (accountOf (keyOf (now (keys .entry))) (now (accounts .entry))) (now («data» .entry)) buy exact ⌝ }
+    ensures { λ r.
+        let a = accountOf (keyOf (now (keys .entry))) (now (accounts .entry)) in
+        ⌜ r ≡ launchLabLeg (now (names .entry)) a (now («data» .entry)) buy exact ⌝ }
 {
     if data.len() < 24 {
         return Found::Nothing;
@@ -67,7 +69,9 @@ fn draft(names: &[u8], keys: &[u8], accounts: &[u8], data: &[u8], buy: bool, exa
 }
 
 pub fn leg(names: &[u8], keys: &[u8], accounts: &[u8], data: &[u8]) -> Found
-    ensures { λ r. ⌜ r ≡ launchLab (now (names .entry)) (accountOf (keyOf (now (keys .entry))) (now (accounts .entry))) (length (now (accounts .entry))) (now («data» .entry)) ⌝ }
+    ensures { λ r.
+        let a = accountOf (keyOf (now (keys .entry))) (now (accounts .entry)) in
+        ⌜ r ≡ launchLab (now (names .entry)) a (length (now (accounts .entry))) (now («data» .entry)) ⌝ }
 {
     if accounts.len() < 15 {
         return Found::Nothing;

@@ -19,7 +19,7 @@ use ids::Id;
 ghost use mathlib.Core.Path.{_≡_};
 ghost use lib.ListN.{length, getD};
 ghost use Rattle.ids.specs.Keys.{keyOf, account};
-ghost use Rattle.swaps.specs.Swap.{trades as tradesOf, byProgram, indexed as indexedOf, legOf};
+ghost use Rattle.swaps.specs.Swap.{trades as tradesOf, byProgram, indexed as indexedOf, legInNumbers};
 
 // A leg in numbers. Accounts are indexes of keys in what `leg` answers, and places among the instruction's accounts in a protocol's own function.
 pub struct Swap {
@@ -70,7 +70,9 @@ pub fn trades(id: Id) -> bool
 
 // The protocol's own function, by the program.
 fn by_program(names: &[u8], keys: &[u8], id: Id, accounts: &[u8], data: &[u8]) -> Found
-    ensures { λ r. ⌜ r ≡ byProgram (now (names .entry)) (account (keyOf (now (keys .entry))) (now (accounts .entry))) id (length (now (accounts .entry))) (now («data» .entry)) ⌝ }
+    ensures { λ r.
+        let a = account (keyOf (now (keys .entry))) (now (accounts .entry)) in
+        ⌜ r ≡ byProgram (now (names .entry)) a id (length (now (accounts .entry))) (now («data» .entry)) ⌝ }
 {
     match id {
         Id::Clmm => clmm::leg(accounts.len(), data),
@@ -125,7 +127,7 @@ fn indexed(accounts: &[u8], found: Found) -> Found
 
 // The leg of an instruction: 88 names, the key section, which program it is of, its index bytes, its data.
 pub fn leg(names: &[u8], keys: &[u8], id: Id, accounts: &[u8], data: &[u8]) -> Found
-    ensures { λ r. ⌜ r ≡ legOf (now (names .entry)) (keyOf (now (keys .entry))) id (now (accounts .entry)) (now («data» .entry)) ⌝ }
+    ensures { λ r. ⌜ r ≡ legInNumbers (now (names .entry)) (keyOf (now (keys .entry))) id (now (accounts .entry)) (now («data» .entry)) ⌝ }
 {
     indexed(accounts, by_program(names, keys, id, accounts, data))
 }

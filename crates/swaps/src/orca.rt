@@ -57,7 +57,9 @@ fn v2(
     amount: u64,
     threshold: u64,
 ) -> Swap
-    ensures { λ r. ⌜ r ≡ orcaV2 (account (keyOf (now (keys .entry))) (now (accounts .entry))) direction exact amount threshold ⌝ }
+    ensures { λ r.
+        let a = account (keyOf (now (keys .entry))) (now (accounts .entry)) in
+        ⌜ r ≡ orcaV2 a direction exact amount threshold ⌝ }
 {
     let input = choose(direction, 7, 9);
     let same = same_account(keys, accounts, input as usize, 7);
@@ -75,7 +77,9 @@ fn v2(
 }
 
 pub fn leg(keys: &[u8], accounts: &[u8], data: &[u8]) -> Found
-    ensures { λ r. ⌜ r ≡ orca (account (keyOf (now (keys .entry))) (now (accounts .entry))) (length (now (accounts .entry))) (now («data» .entry)) ⌝ }
+    ensures { λ r.
+        let a = account (keyOf (now (keys .entry))) (now (accounts .entry)) in
+        ⌜ r ≡ orca a (length (now (accounts .entry))) (now («data» .entry)) ⌝ }
 {
     if !takes(accounts.len(), data) {
         return Found::Nothing;

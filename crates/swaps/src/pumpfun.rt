@@ -15,9 +15,10 @@ use crate::fields::is;
 ghost use mathlib.Core.Path.{_≡_};
 ghost use mathlib.Core.Bool.{not, _&&_, _||_};
 ghost use lib.ListN.{length};
+ghost use Rattle.ids.specs.Ids.{isWrappedSol};
 ghost use Rattle.ids.specs.Keys.{keyOf, account as accountOf};
 ghost use Rattle.swaps.specs.Data.{is as isOf};
-ghost use Rattle.swaps.specs.PumpFun.{isV2, isV3, isBuy, isExact, isWrapped, pumpFunTakes, pumpFunLeg, pumpFunBy, pumpFun};
+ghost use Rattle.swaps.specs.PumpFun.{pumpFunTakes, pumpFunPlaces, pumpFunLeg, pumpFun};
 
 // One of three discriminators.
 fn any(data: &[u8], x: u64, y: u64, z: u64) -> bool
@@ -42,30 +43,6 @@ fn neither(data: &[u8], x: u64, y: u64) -> bool
     !is(data, y)
 }
 
-fn is_v2(data: &[u8]) -> bool
-    ensures { λ r. ⌜ r ≡ isV2 (now («data» .entry)) ⌝ }
-{
-    any(data, BUY_V2, BUY_EXACT_QUOTE_IN_V2, SELL_V2)
-}
-
-fn is_v3(data: &[u8]) -> bool
-    ensures { λ r. ⌜ r ≡ isV3 (now («data» .entry)) ⌝ }
-{
-    any(data, BUY_V3, BUY_EXACT_QUOTE_IN_V3, SELL_V3)
-}
-
-fn is_buy(data: &[u8]) -> bool
-    ensures { λ r. ⌜ r ≡ isBuy (now («data» .entry)) ⌝ }
-{
-    neither(data, SELL_V3, SELL_V2)
-}
-
-fn is_exact(data: &[u8]) -> bool
-    ensures { λ r. ⌜ r ≡ isExact (now («data» .entry)) ⌝ }
-{
-    neither(data, BUY_V3, BUY_V2)
-}
-
 // A form that is known, with the accounts that it needs.
 fn takes(v2: bool, v3: bool, buy: bool, n: usize) -> bool
     ensures { λ r. ⌜ r ≡ pumpFunTakes v2 v3 buy n ⌝ }
@@ -84,48 +61,62 @@ fn takes(v2: bool, v3: bool, buy: bool, n: usize) -> bool
 
 // Whether the quote mint is wrapped SOL.
 fn wrapped(keys: &[u8], accounts: &[u8]) -> bool
-    ensures { λ r. ⌜ r ≡ isWrapped (accountOf (keyOf (now (keys .entry))) (now (accounts .entry)) 2) ⌝ }
+    ensures { λ r. ⌜ r ≡ isWrappedSol (accountOf (keyOf (now (keys .entry))) (now (accounts .entry)) 2) ⌝ }
 {
     let blank = [0u8; 32];
-    ids::is_id(2, account(keys, &blank, accounts, 2))
+    ids::is_wrapped_sol(account(keys, &blank, accounts, 2))
 }
 
-fn draft(
-    wrapped: bool,
+// Where the pool, the user and the user's two token accounts stand among the accounts.
+struct Places {
     pool: u8,
     user: u8,
     base: u8,
     quote: u8,
-    buy: bool,
-    exact: bool,
-    amount: u64,
-    threshold: u64,
-) -> Swap
-    ensures { λ r. ⌜ r ≡ pumpFunLeg wrapped pool user base quote buy exact amount threshold ⌝ }
-{
-    let money = choose(wrapped, user, quote);
-    pair_by(
-        buy,
-        2,
-        1,
-        plain(
-            8,
-            pool,
-            user,
-            choose(buy, money, base),
-            choose(buy, base, money),
-            exact,
-            amount,
-            threshold,
-        ),
-    )
 }
 
-// By the form, and whether the quote is wrapped SOL.
-fn by(v2: bool, v3: bool, buy: bool, exact: bool, sol: bool, n: usize, data: &[u8]) -> Found
-    ensures { λ r. ⌜ r ≡ pumpFunBy v2 v3 buy exact sol n (now («data» .entry)) ⌝ }
+// They stand elsewhere in version 2 than in version 3.
+fn places_of(v2: bool) -> Places
+    ensures { λ r. ⌜ r ≡ pumpFunPlaces v2 ⌝ }
 {
-    if !takes(v2, v3, buy, n) {
+    if v2 {
+        Places {
+            pool: 10,
+            user: 13,
+            base: 14,
+            quote: 15,
+        }
+    } else {
+        Places {
+            pool: 5,
+            user: 8,
+            base: 9,
+            quote: 10,
+        }
+    }
+}
+
+// The money side is the user where the quote is wrapped SOL.
+fn draft(p: Places, wrapped: bool, buy: bool, exact: bool, amount: u64, threshold: u64) -> Swap
+    ensures { λ r. ⌜ r ≡ pumpFunLeg p wrapped buy exact amount threshold ⌝ }
+{
+    let money = choose(wrapped, p.user, p.quote);
+    let input = choose(buy, money, p.base);
+    let output = choose(buy, p.base, money);
+    let s = plain(8, p.pool, p.user, input, output, exact, amount, threshold);
+    pair_by(buy, 2, 1, s)
+}
+
+pub fn leg(keys: &[u8], accounts: &[u8], data: &[u8]) -> Found
+    ensures { λ r.
+        let a = accountOf (keyOf (now (keys .entry))) (now (accounts .entry)) in
+        ⌜ r ≡ pumpFun a (length (now (accounts .entry))) (now («data» .entry)) ⌝ }
+{
+    let v2 = any(data, BUY_V2, BUY_EXACT_QUOTE_IN_V2, SELL_V2);
+    let v3 = any(data, BUY_V3, BUY_EXACT_QUOTE_IN_V3, SELL_V3);
+    let buy = neither(data, SELL_V3, SELL_V2);
+    let exact = neither(data, BUY_V3, BUY_V2);
+    if !takes(v2, v3, buy, accounts.len()) {
         return Found::Nothing;
     }
     if data.len() < 24 {
@@ -133,23 +124,6 @@ fn by(v2: bool, v3: bool, buy: bool, exact: bool, sol: bool, n: usize, data: &[u
     }
     let amount = wire::u64_at(data, 8);
     let threshold = wire::u64_at(data, 16);
-    if v2 {
-        Found::Leg(draft(sol, 10, 13, 14, 15, buy, exact, amount, threshold))
-    } else {
-        Found::Leg(draft(sol, 5, 8, 9, 10, buy, exact, amount, threshold))
-    }
-}
-
-pub fn leg(keys: &[u8], accounts: &[u8], data: &[u8]) -> Found
-    ensures { λ r. ⌜ r ≡ pumpFun (accountOf (keyOf (now (keys .entry))) (now (accounts .entry))) (length (now (accounts .entry))) (now («data» .entry)) ⌝ }
-{
-    by(
-        is_v2(data),
-        is_v3(data),
-        is_buy(data),
-        is_exact(data),
-        wrapped(keys, accounts),
-        accounts.len(),
-        data,
-    )
+    let sol = wrapped(keys, accounts);
+    Found::Leg(draft(places_of(v2), sol, buy, exact, amount, threshold))
 }

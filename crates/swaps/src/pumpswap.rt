@@ -41,7 +41,9 @@ fn track_volume(data: &[u8], buy: bool) -> bool
 
 // The pair goes by the input's key, so equal token accounts flip it.
 fn draft(keys: &[u8], accounts: &[u8], data: &[u8], buy: bool, exact: bool) -> Found
-    ensures { λ r. ⌜ r ≡ pumpSwapLeg (accountOf (keyOf (now (keys .entry))) (now (accounts .entry))) (now («data» .entry)) buy exact ⌝ }
+    ensures { λ r.
+        let a = accountOf (keyOf (now (keys .entry))) (now (accounts .entry)) in
+        ⌜ r ≡ pumpSwapLeg a (now («data» .entry)) buy exact ⌝ }
 {
     if !track_volume(data, buy) {
         return Found::Nothing;
@@ -58,7 +60,9 @@ fn draft(keys: &[u8], accounts: &[u8], data: &[u8], buy: bool, exact: bool) -> F
 }
 
 pub fn leg(names: &[u8], keys: &[u8], accounts: &[u8], data: &[u8]) -> Found
-    ensures { λ r. ⌜ r ≡ pumpSwap (now (names .entry)) (accountOf (keyOf (now (keys .entry))) (now (accounts .entry))) (length (now (accounts .entry))) (now («data» .entry)) ⌝ }
+    ensures { λ r.
+        let a = accountOf (keyOf (now (keys .entry))) (now (accounts .entry)) in
+        ⌜ r ≡ pumpSwap (now (names .entry)) a (length (now (accounts .entry))) (now («data» .entry)) ⌝ }
 {
     if !takes(accounts.len()) {
         return Found::Nothing;

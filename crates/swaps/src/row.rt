@@ -8,8 +8,9 @@ ghost use Rattle.wire.specs.Le.{le};
 ghost use Rattle.wire.specs.Same.{same};
 ghost use Rattle.ids.specs.Keys.{keyOf};
 ghost use Rattle.ids.specs.Mints.{mintOf, mintField};
+ghost use Rattle.pack.specs.View.{poolsIn};
 ghost use Rattle.swaps.specs.Leg.{contains, explicit, orElse, legWith};
-ghost use Rattle.swaps.specs.Row.{bit as bitOf, keyBytes, endBytes, legRow, side as sideOf, poolsOf};
+ghost use Rattle.swaps.specs.Row.{bit as bitOf, keyBytes, endBytes, legRow, side as sideOf};
 
 // The bytes of a row.
 pub const WIDTH: usize = 250;
@@ -27,7 +28,7 @@ fn is_key(row: &[u8], key: &[u8], last: u64) -> bool
 
 // Whether a run of 32-byte rows holds a key.
 fn holds(pools: &[u8], key: &[u8]) -> bool
-    ensures { λ r. ⌜ r ≡ contains (poolsOf (now (pools .entry))) (now (key .entry)) ⌝ }
+    ensures { λ r. ⌜ r ≡ contains (poolsIn (now (pools .entry))) (now (key .entry)) ⌝ }
 {
     let last = wire::u64_at(key, 24);
     let rows = pools.len() / 32;
@@ -44,7 +45,7 @@ fn holds(pools: &[u8], key: &[u8]) -> bool
 
 // A CPMM pool that is among the graduated ones.
 fn graduated(protocol: u8, keys: &[u8], pool: u8, pools: &[u8]) -> bool
-    ensures { λ r. ⌜ r ≡ (eqb protocol 3 && contains (poolsOf (now (pools .entry))) (keyOf (now (keys .entry)) pool)) ⌝ }
+    ensures { λ r. ⌜ r ≡ (eqb protocol 3 && contains (poolsIn (now (pools .entry))) (keyOf (now (keys .entry)) pool)) ⌝ }
 {
     if protocol != 3 {
         return false;
@@ -60,10 +61,9 @@ fn bit(test: bool) -> u8
     if test { 1 } else { 0 }
 }
 
-// The five keys.
+// The five keys, from place 5 of a row on.
 fn put_keys(
-    out: &mut [u8],
-    at: usize,
+    row: &mut [u8],
     keys: &[u8],
     program: usize,
     pool: u8,
@@ -71,16 +71,15 @@ fn put_keys(
     input: u8,
     output: u8,
 )
-    ensures { λ _. ⌜ now (out .exit) ≡ sets (now (out .entry)) at (keyBytes (keyOf (now (keys .entry)) program) (keyOf (now (keys .entry)) pool) (keyOf (now (keys .entry)) trader) (keyOf (now (keys .entry)) input) (keyOf (now (keys .entry)) output)) ⌝ }
+    ensures { λ _.
+        let key = keyOf (now (keys .entry)) in
+        ⌜ now (row .exit) ≡ sets (now (row .entry)) 5 (keyBytes (key program) (key pool) (key trader) (key input) (key output)) ⌝ }
 {
-    if out.len() <= at {
-        return;
-    }
-    ids::put_key(out, at, keys, program);
-    ids::put_key(out, at + 32, keys, pool as usize);
-    ids::put_key(out, at + 64, keys, trader as usize);
-    ids::put_key(out, at + 96, keys, input as usize);
-    ids::put_key(out, at + 128, keys, output as usize);
+    ids::put_key(row, 5, keys, program);
+    ids::put_key(row, 37, keys, pool as usize);
+    ids::put_key(row, 69, keys, trader as usize);
+    ids::put_key(row, 101, keys, input as usize);
+    ids::put_key(row, 133, keys, output as usize);
 }
 
 // The mint of one side: the known one, else the explicit pair's, else the stand-in.
@@ -95,33 +94,24 @@ fn side<'a>(known: &'a [u8], paired: bool, key: &'a [u8], blank: &'a [u8]) -> &'
 
 // Its flag and bytes.
 fn put_side<'a>(out: &mut [u8], at: usize, known: &'a [u8], keys: &'a [u8], paired: bool, index: u8)
-    ensures { λ _. ⌜ now (out .exit) ≡ sets (now (out .entry)) at (mintField (orElse (mintOf (now (known .entry))) (explicit paired (keyOf (now (keys .entry)) index)))) ⌝ }
+    ensures { λ _.
+        let mint = orElse (mintOf (now (known .entry))) (explicit paired (keyOf (now (keys .entry)) index)) in
+        ⌜ now (out .exit) ≡ sets (now (out .entry)) at (mintField mint) ⌝ }
 {
     let blank = [0u8; 32];
     let key = ids::key(keys, &blank, index as usize);
     ids::put_mint(out, at, side(known, paired, key, &blank));
 }
 
-// What follows the mints.
-fn put_end(
-    out: &mut [u8],
-    at: usize,
-    exact: bool,
-    amount: u64,
-    threshold: u64,
-    mode: u8,
-    graduated: bool,
-)
-    ensures { λ _. ⌜ now (out .exit) ≡ sets (now (out .entry)) at (endBytes exact amount threshold mode graduated) ⌝ }
+// What follows the mints, from place 231 of a row on.
+fn put_end(row: &mut [u8], exact: bool, amount: u64, threshold: u64, mode: u8, graduated: bool)
+    ensures { λ _. ⌜ now (row .exit) ≡ sets (now (row .entry)) 231 (endBytes exact amount threshold mode graduated) ⌝ }
 {
-    if out.len() <= at {
-        return;
-    }
-    wire::put_byte(out, at, bit(exact));
-    wire::put_u64(out, at + 1, amount);
-    wire::put_u64(out, at + 9, threshold);
-    wire::put_byte(out, at + 17, mode);
-    wire::put_byte(out, at + 18, bit(graduated));
+    wire::put_byte(row, 231, bit(exact));
+    wire::put_u64(row, 232, amount);
+    wire::put_u64(row, 240, threshold);
+    wire::put_byte(row, 248, mode);
+    wire::put_byte(row, 249, bit(graduated));
 }
 
 // The row at `at`: the invocation's number, its program's index, its leg as `leg` answers it, the mints known of the input account and of the output
@@ -138,7 +128,10 @@ pub fn put_leg<'a>(
     bought: &'a [u8],
     pools: &[u8],
 )
-    ensures { λ _. ⌜ now (out .exit) ≡ sets (now (out .entry)) at (legRow invocation (keyOf (now (keys .entry)) program) (legWith (keyOf (now (keys .entry))) (mintOf (now (spent .entry))) (mintOf (now (bought .entry))) (poolsOf (now (pools .entry))) leg)) ⌝ }
+    ensures { λ _.
+        let key = keyOf (now (keys .entry)) in
+        let known = legWith key (mintOf (now (spent .entry))) (mintOf (now (bought .entry))) (poolsIn (now (pools .entry))) leg in
+        ⌜ now (out .exit) ≡ sets (now (out .entry)) at (legRow invocation (key program) known) ⌝ }
 {
     if out.len() <= at {
         return;
@@ -148,7 +141,6 @@ pub fn put_leg<'a>(
     wire::put_byte(&mut row, 4, leg.protocol);
     put_keys(
         &mut row,
-        5,
         keys,
         program,
         leg.pool,
@@ -160,7 +152,6 @@ pub fn put_leg<'a>(
     put_side(&mut row, 198, bought, keys, leg.paired, leg.second);
     put_end(
         &mut row,
-        231,
         leg.exact,
         leg.amount,
         leg.threshold,

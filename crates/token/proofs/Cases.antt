@@ -1,4 +1,4 @@
--- An instruction that records without moving.
+-- An instruction may record without moving: one example, computed.
 -- Assumes nothing.
 use mathlib.Core.Path.{_≡_, refl}
 use mathlib.Core.Bool.{cond}

@@ -17,47 +17,35 @@ use Rattle.wire.specs.Same.{same}
 use Rattle.wire.specs.Zeros.{zeros}
 use Rattle.ids.specs.declared.Id.{Id}
 use Rattle.ids.specs.declared.Id.the-variants.{SplToken, Token2022}
-use Rattle.ids.specs.Which.{numberOf}
 use Rattle.token.specs.Programs.{isToken, isToken2022}
 use Rattle.token.specs.Tokens.{initialises, plainTransfer, checkedTransfer, feeTransfer}
-use Rattle.token.specs.Published.{Layout, total, size, starts, oneOf, fits, layouts, transfer, transferChecked, transferCheckedWithFee, initializeAccount, initializeAccount2, initializeAccount3, systemTransfer, syncNative, closeAccount}
+use Rattle.token.specs.Published.{Layout, total, size, starts, oneOf, hasLayout, layouts, transferLayout, transferChecked, transferCheckedWithFee, initializeAccount, initializeAccount2, initializeAccount3, systemTransfer, syncNative, closeAccount}
 use Rattle.token.specs.ByLayout.{exact, initialisesAs}
 
 -- the Rust's tests of the program are the published programs
-below-two : (k : ℕ) → ltb k 2 ≡ (eqb k 0 || (eqb k 1 || false))
-below-two k =
-    by-cases
-    (ℕ-discrete k 0)
-    (λ e. rw e)
-    (λ z.
-    by-cases
-    (ℕ-discrete k 1)
-    (λ e. rw e)
-    (λ o. rw (ne-eqb k 0 z, ne-eqb k 1 o, le-ltb k 2 (omega arith))))
-
 pub token-programs : (id : Id) → isToken id ≡ oneOf (SplToken ∷ Token2022 ∷ []) id
 unfolding isToken oneOf
-token-programs id = below-two (numberOf id)
+token-programs id = simp or-false
 
 pub fee-programs : (id : Id) → isToken2022 id ≡ oneOf (Token2022 ∷ []) id
 unfolding isToken2022 oneOf
-fee-programs id = sym (or-false (eqb (numberOf id) 1))
+fee-programs id = simp or-false
 
 -- Transfer: the same instructions
-pub plain-agrees : (id : Id) (n : ℕ) (d : List ℕ) → plainTransfer id n d ≡ fits transfer id n d
-unfolding plainTransfer transfer fits size total starts same
+pub plain-agrees : (id : Id) (n : ℕ) (d : List ℕ) → plainTransfer id n d ≡ hasLayout transferLayout id n d
+unfolding plainTransfer transferLayout hasLayout size total starts same
 plain-agrees id n [] = simp and-false
 plain-agrees id n (x ∷ r) = simp (token-programs, and-true)
 
 -- TransferChecked: the same instructions
-pub checked-agrees : (id : Id) (n : ℕ) (d : List ℕ) → checkedTransfer id n d ≡ fits transferChecked id n d
-unfolding checkedTransfer transferChecked fits size total starts same
+pub checked-agrees : (id : Id) (n : ℕ) (d : List ℕ) → checkedTransfer id n d ≡ hasLayout transferChecked id n d
+unfolding checkedTransfer transferChecked hasLayout size total starts same
 checked-agrees id n [] = simp and-false
 checked-agrees id n (x ∷ r) = simp (token-programs, and-true)
 
 -- TransferCheckedWithFee: the same instructions
-pub fee-agrees : (id : Id) (n : ℕ) (d : List ℕ) → feeTransfer id n d ≡ fits transferCheckedWithFee id n d
-unfolding feeTransfer transferCheckedWithFee fits size total starts same
+pub fee-agrees : (id : Id) (n : ℕ) (d : List ℕ) → feeTransfer id n d ≡ hasLayout transferCheckedWithFee id n d
+unfolding feeTransfer transferCheckedWithFee hasLayout size total starts same
 fee-agrees id n [] = simp and-false
 fee-agrees id n (x ∷ []) = simp and-false
 fee-agrees id n (x ∷ y ∷ r) = simp (fee-programs, and-true)
@@ -135,8 +123,8 @@ fewer true len z m k n =
     go false e = rw (lt-ltb n k (leb-false k n e))
 
 -- so of every layout: missed is what is longer than its fields, and added what has fewer accounts
-pub exact-listed : (l : Layout) (m : ℕ) (id : Id) (n : ℕ) (d : List ℕ) → m ≤ length (l .accounts) → Listed (fits l id n d) (exact l m id n d) (fits l id n d && ltb (size l) (length d)) (exact l m id n d && ltb n (length (l .accounts)))
-unfolding fits exact
+pub exact-listed : (l : Layout) (m : ℕ) (id : Id) (n : ℕ) (d : List ℕ) → m ≤ length (l .accounts) → Listed (hasLayout l id n d) (exact l m id n d) (hasLayout l id n d && ltb (size l) (length d)) (exact l m id n d && ltb n (length (l .accounts)))
+unfolding hasLayout exact
 exact-listed l m id n d h =
     let q = oneOf (l .programs) id && starts (l .tag) d in
     (longer q (length d) (size l) m (length (l .accounts)) n h, fewer q (length d) (size l) m (length (l .accounts)) n)
@@ -149,7 +137,7 @@ no-fewer q k n = go (leb k n) refl
     go true e = rw (le-ltb n k (leb-true k n e)) (and-false (q && true))
     go false e = rw (and-false q)
 
-pub exact-missed : (l : Layout) (id : Id) (n : ℕ) (d : List ℕ) → Listed (fits l id n d) (exact l (length (l .accounts)) id n d) (fits l id n d && ltb (size l) (length d)) false
+pub exact-missed : (l : Layout) (id : Id) (n : ℕ) (d : List ℕ) → Listed (hasLayout l id n d) (exact l (length (l .accounts)) id n d) (hasLayout l id n d && ltb (size l) (length d)) false
 unfolding exact
 exact-missed l id n d =
     let x = exact-listed l (length (l .accounts)) id n d (omega arith) in
@@ -162,24 +150,24 @@ agree-listed false = (refl, refl)
 
 -- THE LIST, of the token instructions
 module _ (id : Id) (n : ℕ) (d : List ℕ) where
-  pub transfer-listed : Listed (fits transfer id n d) (plainTransfer id n d) false false
-  transfer-listed = rw (plain-agrees id n d) (agree-listed (fits transfer id n d))
+  pub transfer-listed : Listed (hasLayout transferLayout id n d) (plainTransfer id n d) false false
+  transfer-listed = rw (plain-agrees id n d) (agree-listed (hasLayout transferLayout id n d))
 
-  pub transfer-checked-listed : Listed (fits transferChecked id n d) (checkedTransfer id n d) false false
-  transfer-checked-listed = rw (checked-agrees id n d) (agree-listed (fits transferChecked id n d))
+  pub transfer-checked-listed : Listed (hasLayout transferChecked id n d) (checkedTransfer id n d) false false
+  transfer-checked-listed = rw (checked-agrees id n d) (agree-listed (hasLayout transferChecked id n d))
 
-  pub transfer-with-fee-listed : Listed (fits transferCheckedWithFee id n d) (feeTransfer id n d) false false
-  transfer-with-fee-listed = rw (fee-agrees id n d) (agree-listed (fits transferCheckedWithFee id n d))
+  pub transfer-with-fee-listed : Listed (hasLayout transferCheckedWithFee id n d) (feeTransfer id n d) false false
+  transfer-with-fee-listed = rw (fee-agrees id n d) (agree-listed (hasLayout transferCheckedWithFee id n d))
 
-  pub initialize-listed : Listed (fits initializeAccount id n d) (initialisesAs initializeAccount id n d) (fits initializeAccount id n d && ltb 1 (length d)) (initialisesAs initializeAccount id n d && ltb n 4)
+  pub initialize-listed : Listed (hasLayout initializeAccount id n d) (initialisesAs initializeAccount id n d) (hasLayout initializeAccount id n d && ltb 1 (length d)) (initialisesAs initializeAccount id n d && ltb n 4)
   unfolding initializeAccount size total
   initialize-listed = rw (initialise-1 id n d) (exact-listed initializeAccount 2 id n d (omega arith))
 
-  pub initialize-2-listed : Listed (fits initializeAccount2 id n d) (initialisesAs initializeAccount2 id n d) (fits initializeAccount2 id n d && ltb 33 (length d)) (initialisesAs initializeAccount2 id n d && ltb n 3)
+  pub initialize-2-listed : Listed (hasLayout initializeAccount2 id n d) (initialisesAs initializeAccount2 id n d) (hasLayout initializeAccount2 id n d && ltb 33 (length d)) (initialisesAs initializeAccount2 id n d && ltb n 3)
   unfolding initializeAccount2 size total
   initialize-2-listed = rw (initialise-2 id n d) (exact-listed initializeAccount2 2 id n d (omega arith))
 
-  pub initialize-3-listed : Listed (fits initializeAccount3 id n d) (initialisesAs initializeAccount3 id n d) (fits initializeAccount3 id n d && ltb 33 (length d)) false
+  pub initialize-3-listed : Listed (hasLayout initializeAccount3 id n d) (initialisesAs initializeAccount3 id n d) (hasLayout initializeAccount3 id n d && ltb 33 (length d)) false
   unfolding initializeAccount3 size total
   initialize-3-listed = rw (initialise-3 id n d) (exact-missed initializeAccount3 id n d)
 
@@ -195,7 +183,7 @@ abbrev alone : ℕ → Bool
 alone j = ltb 0 (length (tagAt j)) && allBelow (apart j) (length layouts)
 
 all-alone : allBelow alone (length layouts) ≡ true
-unfolding layouts systemTransfer initializeAccount initializeAccount2 initializeAccount3 transfer transferChecked transferCheckedWithFee syncNative closeAccount
+unfolding layouts systemTransfer initializeAccount initializeAccount2 initializeAccount3 transferLayout transferChecked transferCheckedWithFee syncNative closeAccount
 all-alone = refl
 
 begins : (p d : List ℕ) → 0 < length p → starts p d ≡ true → getD d 0 0 ≡ getD p 0 0
@@ -220,22 +208,22 @@ tags-apart j k hj hk d ej ek =
     eqb-true j k (only-left (eqb j k) (eqb (getD (tagAt j) 0 0) (getD (tagAt k) 0 0)) (eq-eqb (getD (tagAt j) 0 0) (getD (tagAt k) 0 0) first) other)
 
 -- the smallest example of each difference: a byte too many, or accounts too few
-pub longer-1 : (fits initializeAccount SplToken 4 (1 ∷ 0 ∷ []) ≡ true) × (initialises SplToken 4 (1 ∷ 0 ∷ []) ≡ false)
-unfolding fits oneOf initializeAccount size total starts same initialises isToken
+pub longer-1 : (hasLayout initializeAccount SplToken 4 (1 ∷ 0 ∷ []) ≡ true) × (initialises SplToken 4 (1 ∷ 0 ∷ []) ≡ false)
+unfolding hasLayout oneOf initializeAccount size total starts same initialises isToken
 longer-1 = (refl, refl)
 
-pub longer-2 : (fits initializeAccount2 SplToken 3 (16 ∷ zeros 33) ≡ true) × (initialises SplToken 3 (16 ∷ zeros 33) ≡ false)
-unfolding fits oneOf initializeAccount2 size total starts same initialises isToken
+pub longer-2 : (hasLayout initializeAccount2 SplToken 3 (16 ∷ zeros 33) ≡ true) × (initialises SplToken 3 (16 ∷ zeros 33) ≡ false)
+unfolding hasLayout oneOf initializeAccount2 size total starts same initialises isToken
 longer-2 = (refl, refl)
 
-pub longer-3 : (fits initializeAccount3 SplToken 2 (18 ∷ zeros 33) ≡ true) × (initialises SplToken 2 (18 ∷ zeros 33) ≡ false)
-unfolding fits oneOf initializeAccount3 size total starts same initialises isToken
+pub longer-3 : (hasLayout initializeAccount3 SplToken 2 (18 ∷ zeros 33) ≡ true) × (initialises SplToken 2 (18 ∷ zeros 33) ≡ false)
+unfolding hasLayout oneOf initializeAccount3 size total starts same initialises isToken
 longer-3 = (refl, refl)
 
-pub fewer-1 : (fits initializeAccount SplToken 2 (1 ∷ []) ≡ false) × (initialises SplToken 2 (1 ∷ []) ≡ true)
-unfolding fits oneOf initializeAccount size total starts same initialises isToken
+pub fewer-1 : (hasLayout initializeAccount SplToken 2 (1 ∷ []) ≡ false) × (initialises SplToken 2 (1 ∷ []) ≡ true)
+unfolding hasLayout oneOf initializeAccount size total starts same initialises isToken
 fewer-1 = (refl, refl)
 
-pub fewer-2 : (fits initializeAccount2 SplToken 2 (16 ∷ zeros 32) ≡ false) × (initialises SplToken 2 (16 ∷ zeros 32) ≡ true)
-unfolding fits oneOf initializeAccount2 size total starts same initialises isToken
+pub fewer-2 : (hasLayout initializeAccount2 SplToken 2 (16 ∷ zeros 32) ≡ false) × (initialises SplToken 2 (16 ∷ zeros 32) ≡ true)
+unfolding hasLayout oneOf initializeAccount2 size total starts same initialises isToken
 fewer-2 = (refl, refl)

@@ -3,20 +3,18 @@
 use mathlib.Core.Path.{_≡_, refl, ap, _∙_, subst}
 use mathlib.Core.List.{List, _∷_, _++_}
 use mathlib.Core.Option.{Option, none, some, Option·none-ne-some, Option·some-injective}
-use Prim.Native.Nat.{ℕ, suc, _*_}
+use Prim.Native.Nat.{ℕ, suc}
 use native.Mathlib.Omega.{arith}
 use lib.ListN.{length, set, length-append}
 use lib.Seq.{sets}
 use Rattle.wire.proofs.Laws.{leBytes-length}
 use Rattle.wire.proofs.Sets.{sets-next, sets-whole}
 use Rattle.ids.specs.declared.Id.{Id}
-use Rattle.ids.specs.Keys.{Key, keyOf}
-use Rattle.ids.specs.Mints.{mintOf, mintField}
-use Rattle.ids.proofs.Keys.{key-length, mint-length}
-use Rattle.token.specs.Tokens.{tokenOf}
-use Rattle.token.specs.Transfers.{Transfer, transfer, given}
-use Rattle.token.specs.Rows.{transferWidth, feeField, rowOf, rowsOf}
-use Rattle.token.specs.Moved.{valueOf, movedBy}
+use Rattle.ids.specs.Keys.{Key}
+use Rattle.ids.specs.Mints.{mintField}
+use Rattle.token.specs.Transfers.{Transfer, transfer}
+use Rattle.token.specs.Rows.{transferWidth, feeField, transferRow}
+use Rattle.token.specs.Moved.{transferValue, movedOf}
 use Rattle.token.specs.declared.Moved.{Moved}
 use Rattle.token.specs.declared.Moved.the-variants.{Nothing, FeeUnknown, FeeKnown}
 use Rattle.token.proofs.Laws.{moved-value}
@@ -39,28 +37,20 @@ fee-length none = refl
 fee-length (some f) = ap suc (leBytes-length 8 f)
 
 -- a row has the width of the table
-pub row-length : (i : ℕ) (p : Key) (m : Option Key) (t : Transfer) → length p ≡ 32 → length (mintField m) ≡ 33 → length (t .source) ≡ 32 → length (t .destination) ≡ 32 → length (rowOf i p m t) ≡ transferWidth
-unfolding rowOf
+pub row-length : (i : ℕ) (p : Key) (m : Option Key) (t : Transfer) → length p ≡ 32 → length (mintField m) ≡ 33 → length (t .source) ≡ 32 → length (t .destination) ≡ 32 → length (transferRow i p m t) ≡ transferWidth
+unfolding transferRow
 row-length i p m t hp hm hs hd =
     simp (length-append, leBytes-length, hp, hs, hd, hm, fee-length (t .fee))
 
 -- so has the row of a transfer that an instruction gives, whose ends are keys
 pub transfer-length : (κ : ℕ → Key) → ((j : ℕ) → length (κ j) ≡ 32) → (id : Id) (accounts bytes : List ℕ) {t : Transfer} → transfer κ id accounts bytes ≡ some t
-    → (i : ℕ) (p : Key) (m : Option Key) → length p ≡ 32 → length (mintField m) ≡ 33 → length (rowOf i p m t) ≡ transferWidth
-transfer-length κ long id accounts bytes {t} e i p m hp hm = go (movedBy κ id accounts (tokenOf id (length accounts) bytes)) (moved-value κ id accounts bytes ∙ e)
+    → (i : ℕ) (p : Key) (m : Option Key) → length p ≡ 32 → length (mintField m) ≡ 33 → length (transferRow i p m t) ≡ transferWidth
+transfer-length κ long id accounts bytes {t} e i p m hp hm = go (movedOf κ id accounts bytes) (moved-value κ id accounts bytes ∙ e)
   where
-    by : {x : Transfer} → length (x .source) ≡ 32 → length (x .destination) ≡ 32 → some x ≡ some t → length (rowOf i p m t) ≡ transferWidth
-    by {x} hs hd q = subst (λ (y : Transfer). length (rowOf i p m y) ≡ transferWidth) (Option·some-injective x t q) (row-length i p m x hp hm hs hd)
+    by : {x : Transfer} → length (x .source) ≡ 32 → length (x .destination) ≡ 32 → some x ≡ some t → length (transferRow i p m t) ≡ transferWidth
+    by {x} hs hd q = subst (λ (y : Transfer). length (transferRow i p m y) ≡ transferWidth) (Option·some-injective x t q) (row-length i p m x hp hm hs hd)
 
-    go : (r : Moved) → valueOf κ r ≡ some t → length (rowOf i p m t) ≡ transferWidth
+    go : (r : Moved) → transferValue κ r ≡ some t → length (transferRow i p m t) ≡ transferWidth
     go Nothing q = absurd (Option·none-ne-some t q)
     go (FeeUnknown s d a) q = by (long s) (long d) q
     go (FeeKnown s d a f) q = by (long s) (long d) q
-
--- what an instruction adds to the table: whole rows
-pub rows-length : (ks : List ℕ) (i p : ℕ) (m : List ℕ) (r : Moved) → length (rowsOf i (keyOf ks p) (mintOf m) (valueOf (keyOf ks) r)) ≡ given (valueOf (keyOf ks) r) * transferWidth
-rows-length ks i p m Nothing = refl
-rows-length ks i p m (FeeUnknown s d a) =
-    row-length i (keyOf ks p) (mintOf m) record { source = keyOf ks s; destination = keyOf ks d; amount = a; fee = none } (key-length ks p) (mint-length m) (key-length ks s) (key-length ks d)
-rows-length ks i p m (FeeKnown s d a f) =
-    row-length i (keyOf ks p) (mintOf m) record { source = keyOf ks s; destination = keyOf ks d; amount = a; fee = some f } (key-length ks p) (mint-length m) (key-length ks s) (key-length ks d)

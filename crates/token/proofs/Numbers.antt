@@ -1,4 +1,4 @@
--- What the last arm of a `match` on a program tells of the program's number.
+-- What the last arm of a `match` on a program tells of the program's number: a case's tag is its number, so it is none of those that have an arm.
 -- Assumes nothing.
 use mathlib.Core.Path.{_≡_, refl, _∙_, subst}
 use mathlib.Core.Bool.{not}

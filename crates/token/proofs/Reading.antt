@@ -1,23 +1,27 @@
 -- What `tokenOf` answers, tag by tag: each tag leaves one test. The reader and the laws of the definitions that share these tests go by them.
 -- Assumes nothing.
-use mathlib.Core.Path.{_≡_}
+use mathlib.Core.Path.{_≡_, sym}
 use mathlib.Core.Logic.{_≢_}
-use mathlib.Core.Bool.{true, false, cond, _&&_, and-false, or-false}
+use mathlib.Core.Bool.{Bool, true, false, cond, _&&_, _||_, and-false, or-false, false≢true}
 use mathlib.Core.List.{List}
 use Prim.Native.Nat.{ℕ}
 use lib.Dec.{leb, eqb}
 use lib.ListN.{length, getD}
-use native.Mathlib.Omega.{arith}
-use borrow.Author.Tests.{ne-eqb, ltb-false}
+use borrow.Author.Tests.{ne-eqb}
 use Rattle.ids.specs.declared.Id.{Id}
-use Rattle.ids.specs.Which.{numberOf}
+use Rattle.ids.specs.declared.Id.the-variants.{SplToken, Token2022}
+use Rattle.ids.specs.Which.{sameId}
 use Rattle.token.specs.Programs.{isToken, isToken2022}
 use Rattle.token.specs.Tokens.{initialises, plainTransfer, checkedTransfer, feeTransfer, plainAmount, checkedAmount, feeTransferAmount, feeTransferFee, tokenOf}
 use Rattle.token.specs.declared.Token.the-variants.{Other, Initialise, Plain, Checked, WithFee}
 
 not-2022 : (id : Id) → isToken id ≡ false → isToken2022 id ≡ false
 unfolding isToken isToken2022
-not-2022 id t = ne-eqb _ _ (λ (e : numberOf id ≡ 1). omega (arith, ltb-false (numberOf id) 2 t))
+not-2022 id t = go (sameId id SplToken) (sameId id Token2022) t
+  where
+    go : (a b : Bool) → (a || b) ≡ false → b ≡ false
+    go true b e = absurd (false≢true (sym e))
+    go false b e = e
 
 module _ (id : Id) (n : ℕ) (d : List ℕ) where
   -- no token program

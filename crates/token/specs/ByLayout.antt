@@ -12,7 +12,7 @@ use Rattle.token.specs.Tokens.{initialises}
 use Rattle.token.specs.Transfers.{Transfer, feeOf}
 use Rattle.token.specs.declared.Token.{Token}
 use Rattle.token.specs.declared.Token.the-variants.{Other, Initialise, Plain, Checked, WithFee}
-use Rattle.token.specs.Published.{Name, Layout, held, source, destination, mint, amount, fee, transfer, transferChecked, transferCheckedWithFee, initializeAccount, initializeAccount2, initializeAccount3, number, role, size, starts, oneOf, fits}
+use Rattle.token.specs.Published.{Name, Layout, held, source, destination, mint, amount, fee, transferLayout, transferChecked, transferCheckedWithFee, initializeAccount, initializeAccount2, initializeAccount3, number, role, size, starts, oneOf, hasLayout}
 
 -- how the Rust takes all but the three transfers: no byte after the fields, and m accounts are enough
 unfoldable pub exact : Layout → ℕ → Id → ℕ → List ℕ → Bool
@@ -28,12 +28,12 @@ pairOf κ none y = []
 pairOf κ (some x) none = []
 pairOf κ (some x) (some y) = (κ x, κ y) ∷ []
 
-unfoldable pub pair : Layout → Name → Name → (ℕ → Key) → List ℕ → List (Key × Key)
-pair l x y κ accounts = pairOf κ (role l x accounts) (role l y accounts)
+unfoldable pub rolePair : Layout → Name → Name → (ℕ → Key) → List ℕ → List (Key × Key)
+rolePair l x y κ accounts = pairOf κ (role l x accounts) (role l y accounts)
 
 -- what an instruction of a layout tells of mints: each token account that it names, with the mint that it names
 unfoldable pub told : Layout → (ℕ → Key) → List ℕ → List (Key × Key)
-told l κ accounts = pair l held mint κ accounts ++ pair l source mint κ accounts ++ pair l destination mint κ accounts
+told l κ accounts = rolePair l held mint κ accounts ++ rolePair l source mint κ accounts ++ rolePair l destination mint κ accounts
 
 -- an account that is named, and whose key is zero
 abbrev pub namesZero : (ℕ → Key) → Option ℕ → Bool
@@ -53,18 +53,18 @@ sent l κ id accounts d =
 unfoldable pub publishedToken : Id → ℕ → List ℕ → Token
 publishedToken id n d =
     cond (exact initializeAccount 2 id n d || exact initializeAccount2 2 id n d || exact initializeAccount3 2 id n d) Initialise
-    (cond (fits transfer id n d) (Option·elim (number transfer amount d) Other Plain)
-    (cond (fits transferChecked id n d) (Option·elim (number transferChecked amount d) Other Checked)
-    (cond (fits transferCheckedWithFee id n d)
+    (cond (hasLayout transferLayout id n d) (Option·elim (number transferLayout amount d) Other Plain)
+    (cond (hasLayout transferChecked id n d) (Option·elim (number transferChecked amount d) Other Checked)
+    (cond (hasLayout transferCheckedWithFee id n d)
     (Option·elim (number transferCheckedWithFee amount d) Other (λ x. Option·elim (number transferCheckedWithFee fee d) Other (WithFee x)))
     Other)))
 
 -- the transfer that it gives
 unfoldable pub publishedTransfer : (ℕ → Key) → Id → List ℕ → List ℕ → Option Transfer
 publishedTransfer κ id accounts d =
-    cond (fits transfer id (length accounts) d) (sent transfer κ id accounts d)
-    (cond (fits transferChecked id (length accounts) d) (sent transferChecked κ id accounts d)
-    (cond (fits transferCheckedWithFee id (length accounts) d) (sent transferCheckedWithFee κ id accounts d)
+    cond (hasLayout transferLayout id (length accounts) d) (sent transferLayout κ id accounts d)
+    (cond (hasLayout transferChecked id (length accounts) d) (sent transferChecked κ id accounts d)
+    (cond (hasLayout transferCheckedWithFee id (length accounts) d) (sent transferCheckedWithFee κ id accounts d)
     none))
 
 -- what an initialise tells of mints
@@ -78,10 +78,10 @@ publishedInitialise κ id accounts d =
 -- all that it tells of mints
 unfoldable pub publishedRecords : (ℕ → Key) → Id → List ℕ → List ℕ → List (Key × Key)
 publishedRecords κ id accounts d =
-    cond (fits transferChecked id (length accounts) d) (told transferChecked κ accounts) []
-    ++ cond (fits transferCheckedWithFee id (length accounts) d) (told transferCheckedWithFee κ accounts) []
+    cond (hasLayout transferChecked id (length accounts) d) (told transferChecked κ accounts) []
+    ++ cond (hasLayout transferCheckedWithFee id (length accounts) d) (told transferCheckedWithFee κ accounts) []
     ++ publishedInitialise κ id accounts d
 
 -- what a pass looks at
 unfoldable pub publishedPlain : (ℕ → Key) → Id → List ℕ → List ℕ → List (Key × Key)
-publishedPlain κ id accounts d = cond (fits transfer id (length accounts) d) (pair transfer source destination κ accounts) []
+publishedPlain κ id accounts d = cond (hasLayout transferLayout id (length accounts) d) (rolePair transferLayout source destination κ accounts) []

@@ -1,16 +1,16 @@
--- Which programs the token instructions belong to. SPL Token and Token-2022 are the first two rows of the table of ids.
+-- Which programs the token instructions belong to.
 -- Assumes nothing.
-use mathlib.Core.Bool.{Bool}
-use lib.Dec.{ltb, eqb}
+use mathlib.Core.Bool.{Bool, _||_}
 use Rattle.ids.specs.declared.Id.{Id}
-use Rattle.ids.specs.Which.{numberOf}
+use Rattle.ids.specs.declared.Id.the-variants.{SplToken, Token2022}
+use Rattle.ids.specs.Which.{sameId}
 
 -- the Rust's `token_program`: SPL Token or Token-2022
 unfoldable pub isToken : Id → Bool
-isToken id = ltb (numberOf id) 2
+isToken id = sameId id SplToken || sameId id Token2022
 
 unfoldable pub isSpl : Id → Bool
-isSpl id = eqb (numberOf id) 0
+isSpl id = sameId id SplToken
 
 unfoldable pub isToken2022 : Id → Bool
-isToken2022 id = eqb (numberOf id) 1
+isToken2022 id = sameId id Token2022

@@ -11,7 +11,7 @@ use Rattle.wire.specs.Le.{le}
 use Rattle.wire.specs.Same.{same}
 use Rattle.ids.specs.declared.Id.{Id}
 use Rattle.ids.specs.declared.Id.the-variants.{SplToken, Token2022, System}
-use Rattle.ids.specs.Which.{numberOf}
+use Rattle.ids.specs.Which.{sameId}
 
 -- what a field or an account of an instruction is called: `held` is the token account that it is about
 pub data Name : Type 0 where
@@ -58,8 +58,8 @@ initializeAccount3 =
     record { programs = SplToken ∷ Token2022 ∷ []; tag = 18 ∷ []; fields = (owner, 32) ∷ []; accounts = held ∷ mint ∷ [] }
 
 -- SPL Token and Token-2022: Transfer, TransferChecked
-unfoldable pub transfer : Layout
-transfer =
+unfoldable pub transferLayout : Layout
+transferLayout =
     record { programs = SplToken ∷ Token2022 ∷ []; tag = 3 ∷ []; fields = (amount, 8) ∷ []; accounts = source ∷ destination ∷ authority ∷ [] }
 
 unfoldable pub transferChecked : Layout
@@ -92,7 +92,7 @@ closeAccount =
 -- all nine
 unfoldable pub layouts : List Layout
 layouts =
-    systemTransfer ∷ initializeAccount ∷ initializeAccount2 ∷ initializeAccount3 ∷ transfer ∷ transferChecked ∷ transferCheckedWithFee ∷ syncNative ∷ closeAccount ∷ []
+    systemTransfer ∷ initializeAccount ∷ initializeAccount2 ∷ initializeAccount3 ∷ transferLayout ∷ transferChecked ∷ transferCheckedWithFee ∷ syncNative ∷ closeAccount ∷ []
 
 -- where a field stands and how wide it is: the fields follow one another, the first at byte `at`; none where no field has the name
 unfoldable pub field : Name → ℕ → List (Name × ℕ) → Option (ℕ × ℕ)
@@ -133,8 +133,8 @@ starts p d = same (take (length p) d) p
 -- whether a program is one of these
 unfoldable pub oneOf : List Id → Id → Bool
 oneOf [] id = false
-oneOf (p ∷ ps) id = eqb (numberOf id) (numberOf p) || oneOf ps id
+oneOf (p ∷ ps) id = sameId id p || oneOf ps id
 
 -- an instruction of this layout: program id, n accounts, data d
-unfoldable pub fits : Layout → Id → ℕ → List ℕ → Bool
-fits l id n d = oneOf (l .programs) id && starts (l .tag) d && leb (size l) (length d) && leb (length (l .accounts)) n
+unfoldable pub hasLayout : Layout → Id → ℕ → List ℕ → Bool
+hasLayout l id n d = oneOf (l .programs) id && starts (l .tag) d && leb (size l) (length d) && leb (length (l .accounts)) n

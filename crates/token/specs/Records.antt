@@ -4,12 +4,10 @@
 use Prim.Native.Nat.{ℕ}
 use mathlib.Core.Bool.{cond}
 use mathlib.Core.List.{List, [], _∷_, _++_}
-use lib.ListN.{length, getD}
+use lib.ListN.{length}
 use Rattle.ids.specs.declared.Id.{Id}
 use Rattle.ids.specs.Keys.{Key, account}
 use Rattle.token.specs.Tokens.{initialises, plainTransfer, checkedTransfer, feeTransfer}
-use Rattle.token.specs.declared.Token.{Token}
-use Rattle.token.specs.declared.Token.the-variants.{Other, Initialise, Plain, Checked, WithFee}
 
 -- source and destination have the mint between them
 unfoldable pub bothEnds : (ℕ → Key) → List ℕ → List (Key × Key)
@@ -25,19 +23,3 @@ records κ id accounts d =
 -- what a pass looks at: source and destination of a plain transfer, whatever its third account is
 unfoldable pub plain : (ℕ → Key) → Id → List ℕ → List ℕ → List (Key × Key)
 plain κ id accounts d = cond (plainTransfer id (length accounts) d) ((account κ accounts 0, account κ accounts 1) ∷ []) []
-
--- what `records` gives, by the enum that an instruction is read into and the index bytes of its accounts
-abbrev pub recordsBy : (ℕ → Key) → List ℕ → Token → List (Key × Key)
-recordsBy κ accounts Other = []
-recordsBy κ accounts Initialise = (κ (getD accounts 0 0), κ (getD accounts 1 0)) ∷ []
-recordsBy κ accounts (Plain a) = []
-recordsBy κ accounts (Checked a) = (κ (getD accounts 0 0), κ (getD accounts 1 0)) ∷ (κ (getD accounts 2 0), κ (getD accounts 1 0)) ∷ []
-recordsBy κ accounts (WithFee a f) = (κ (getD accounts 0 0), κ (getD accounts 1 0)) ∷ (κ (getD accounts 2 0), κ (getD accounts 1 0)) ∷ []
-
--- what `plain` gives, likewise
-abbrev pub plainBy : (ℕ → Key) → List ℕ → Token → List (Key × Key)
-plainBy κ accounts Other = []
-plainBy κ accounts Initialise = []
-plainBy κ accounts (Plain a) = (κ (getD accounts 0 0), κ (getD accounts 1 0)) ∷ []
-plainBy κ accounts (Checked a) = []
-plainBy κ accounts (WithFee a f) = []

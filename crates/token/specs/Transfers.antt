@@ -38,8 +38,3 @@ transfer κ id accounts d =
     (cond (checkedTransfer id (length accounts) d) (checked κ accounts (checkedAmount d) (feeOf id))
     (cond (feeTransfer id (length accounts) d) (checked κ accounts (feeTransferAmount d) (some (feeTransferFee d)))
     none))
-
--- how many transfers, and so rows, there are
-abbrev pub given : Option Transfer → ℕ
-given none = 0
-given (some t) = 1

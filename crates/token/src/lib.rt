@@ -2,14 +2,15 @@
 //
 // Every function is total. An instruction is read once, into an enum of numbers; keys stay indexes until a row is written.
 ghost use mathlib.Core.Path.{_≡_};
-ghost use mathlib.Core.Bool.{_&&_, _||_};
+ghost use mathlib.Core.Bool.{cond, _&&_, _||_};
 ghost use lib.Dec.{leb, eqb};
 ghost use lib.ListN.{length, getD};
 ghost use Rattle.ids.specs.Keys.{keyOf, isZero};
 ghost use Rattle.token.specs.Programs.{isToken, isSpl, isToken2022};
-ghost use Rattle.token.specs.Tokens.{tokenOf};
+ghost use Rattle.token.specs.declared.Token.the-variants.{Other, Initialise, Plain, Checked, WithFee};
+ghost use Rattle.token.specs.Tokens.{plainAmount, checkedAmount, feeTransferAmount, feeTransferFee, tokenOf};
 ghost use Rattle.token.specs.Transfers.{transfer as transferOf};
-ghost use Rattle.token.specs.Moved.{valueOf, feeless, movedBy, sourceBy};
+ghost use Rattle.token.specs.Moved.{transferValue, feeless, movedBy, movedOf, sourceBy};
 use ids::Id;
 
 pub mod row;
@@ -56,7 +57,8 @@ fn exactly(len: usize, want: usize, n: usize, accounts: usize) -> bool
     len == want && accounts <= n
 }
 
-fn with_fee(id: Id, n: usize, data: &[u8]) -> bool
+// Whether a fee is named: the byte after tag 26, and room for both numbers.
+fn names_fee(id: Id, n: usize, data: &[u8]) -> bool
     ensures { λ r. ⌜ r ≡ (isToken2022 id && eqb (getD (now («data» .entry)) 1 0) 1 && leb 19 (length (now («data» .entry))) && leb 4 n) ⌝ }
 {
     if !token_2022(id) {
@@ -68,6 +70,52 @@ fn with_fee(id: Id, n: usize, data: &[u8]) -> bool
     at_least(data.len(), 19, n, 4)
 }
 
+// What tag 1, and with another size tags 16 and 18, can be.
+fn initialise(len: usize, size: usize, accounts: usize) -> Token
+    ensures { λ r. ⌜ r ≡ cond (eqb len size && leb 2 accounts) Initialise Other ⌝ }
+{
+    if exactly(len, size, accounts, 2) {
+        Token::Initialise
+    } else {
+        Token::Other
+    }
+}
+
+// What tag 3 can be.
+fn plain(accounts: usize, data: &[u8]) -> Token
+    ensures { λ r. ⌜ r ≡ cond (leb 9 (length (now («data» .entry))) && leb 3 accounts) (Plain (plainAmount (now («data» .entry)))) Other ⌝ }
+{
+    if at_least(data.len(), 9, accounts, 3) {
+        Token::Plain(wire::u64_at(data, 1))
+    } else {
+        Token::Other
+    }
+}
+
+// What tag 12 can be.
+fn checked(accounts: usize, data: &[u8]) -> Token
+    ensures { λ r. ⌜ r ≡ cond (leb 10 (length (now («data» .entry))) && leb 4 accounts) (Checked (checkedAmount (now («data» .entry)))) Other ⌝ }
+{
+    if at_least(data.len(), 10, accounts, 4) {
+        Token::Checked(wire::u64_at(data, 1))
+    } else {
+        Token::Other
+    }
+}
+
+// What tag 26 can be.
+fn with_fee(id: Id, accounts: usize, data: &[u8]) -> Token
+    ensures { λ r. ⌜ r ≡ cond
+        (isToken2022 id && eqb (getD (now («data» .entry)) 1 0) 1 && leb 19 (length (now («data» .entry))) && leb 4 accounts)
+        (WithFee (feeTransferAmount (now («data» .entry))) (feeTransferFee (now («data» .entry)))) Other ⌝ }
+{
+    if names_fee(id, accounts, data) {
+        Token::WithFee(wire::u64_at(data, 2), wire::u64_at(data, 11))
+    } else {
+        Token::Other
+    }
+}
+
 // The instruction that the data is, for a program and a number of accounts.
 pub fn parse(id: Id, accounts: usize, data: &[u8]) -> Token
     ensures { λ r. ⌜ r ≡ tokenOf id accounts (now («data» .entry)) ⌝ }
@@ -77,41 +125,11 @@ pub fn parse(id: Id, accounts: usize, data: &[u8]) -> Token
     }
     let tag = wire::byte(data, 0);
     match tag {
-        1 => {
-            if exactly(data.len(), 1, accounts, 2) {
-                Token::Initialise
-            } else {
-                Token::Other
-            }
-        }
-        3 => {
-            if at_least(data.len(), 9, accounts, 3) {
-                Token::Plain(wire::u64_at(data, 1))
-            } else {
-                Token::Other
-            }
-        }
-        12 => {
-            if at_least(data.len(), 10, accounts, 4) {
-                Token::Checked(wire::u64_at(data, 1))
-            } else {
-                Token::Other
-            }
-        }
-        16 | 18 => {
-            if exactly(data.len(), 33, accounts, 2) {
-                Token::Initialise
-            } else {
-                Token::Other
-            }
-        }
-        26 => {
-            if with_fee(id, accounts, data) {
-                Token::WithFee(wire::u64_at(data, 2), wire::u64_at(data, 11))
-            } else {
-                Token::Other
-            }
-        }
+        1 => initialise(data.len(), 1, accounts),
+        3 => plain(accounts, data),
+        12 => checked(accounts, data),
+        16 | 18 => initialise(data.len(), 33, accounts),
+        26 => with_fee(id, accounts, data),
         _ => Token::Other,
     }
 }
@@ -148,7 +166,9 @@ fn no_ends(keys: &[u8], source: u8, destination: u8) -> bool
 }
 
 fn no_checked_ends(keys: &[u8], source: u8, destination: u8, mint: u8) -> bool
-    ensures { λ r. ⌜ r ≡ (isZero (keyOf (now (keys .entry)) source) || isZero (keyOf (now (keys .entry)) destination) || isZero (keyOf (now (keys .entry)) mint)) ⌝ }
+    ensures { λ r. ⌜ r ≡ (isZero (keyOf (now (keys .entry)) source)
+        || isZero (keyOf (now (keys .entry)) destination)
+        || isZero (keyOf (now (keys .entry)) mint)) ⌝ }
 {
     no_ends(keys, source, destination) || missing(keys, mint)
 }
@@ -196,7 +216,8 @@ fn moved_by(token: Token, id: Id, keys: &[u8], accounts: &[u8]) -> Moved
 
 // The transfer that an instruction gives.
 pub fn transfer(id: Id, keys: &[u8], accounts: &[u8], data: &[u8]) -> Moved
-    ensures { λ r. ⌜ (r ≡ movedBy (keyOf (now (keys .entry))) id (now (accounts .entry)) (tokenOf id (length (now (accounts .entry))) (now («data» .entry)))) × (valueOf (keyOf (now (keys .entry))) r ≡ transferOf (keyOf (now (keys .entry))) id (now (accounts .entry)) (now («data» .entry))) ⌝ }
+    ensures { λ r. ⌜ r ≡ movedOf (keyOf (now (keys .entry))) id (now (accounts .entry)) (now («data» .entry)) ⌝ }
+    ensures { λ r. ⌜ transferValue (keyOf (now (keys .entry))) r ≡ transferOf (keyOf (now (keys .entry))) id (now (accounts .entry)) (now («data» .entry)) ⌝ }
 {
     moved_by(parse(id, accounts.len(), data), id, keys, accounts)
 }

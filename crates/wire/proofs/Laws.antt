@@ -1,4 +1,4 @@
--- Laws of `le` and `leBytes`, over the width n.
+-- Laws of `le` and `leBytes`, over the width n: a number is its low bytes and its high bytes by their weight, so that one is read and stored by halves.
 -- Assumes nothing.
 use mathlib.Core.Path.{_≡_, refl, sym, ap, subst, _∙_}
 use mathlib.Core.Bool.{Bool, true, false}
@@ -11,7 +11,7 @@ use lib.Seq.{drop-cons}
 use lib.Dec.{ltb}
 use borrow.Author.Tests.{ltb-true, ltb-false}
 use lib.Pow.{pow-add}
-use lib.Arith.{digits-lt, digits-div, digits-mod, mod-mul}
+use lib.Arith.{digits-div, digits-mod, mod-mul}
 use Rattle.wire.specs.Le.{le, leBytes, Bytes}
 
 -- all of it past the end: 0
@@ -27,12 +27,7 @@ le-split n zero s at = simp (add-zero, zero-mul)
 le-split n (suc m) s at =
     rw (add-suc, le-split n m s at) (simp (add-mul, pow-add, ← add-assoc, mul-assoc, mul-comm (256 ^ n) (256 ^ m)))
 
--- n bytes are a number below 256 ^ n
-pub le-lt : (n : ℕ) (s : List ℕ) (at : ℕ) → ((i : ℕ) → getD s i 0 < 256) → le n s at < 256 ^ n
-unfolding le
-le-lt zero s at h = omega arith
-le-lt (suc n) s at h = rw (pow-suc, mul-comm (256 ^ n) 256) (omega (arith, digits-lt (h (at + n)) (le-lt n s at h)))
-
+-- as many bytes as were asked for
 pub leBytes-length : (n x : ℕ) → length (leBytes n x) ≡ n
 unfolding leBytes
 leBytes-length zero x = refl

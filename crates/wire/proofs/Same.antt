@@ -1,4 +1,4 @@
--- The laws by which proofs use the test of two runs.
+-- The laws by which proofs use the test of two runs: it is true exactly of equal ones, so a byte that differs decides it.
 -- Assumes nothing.
 use mathlib.Core.Path.{_≡_, refl, sym, ap, ap₂, subst, _∙_}
 use mathlib.Core.Logic.{_≢_}

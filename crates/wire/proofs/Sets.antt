@@ -51,11 +51,6 @@ sets-set l i (v ∷ vs) j x h = sets-set (set l i v) (suc i) vs j x (omega arith
 pub sets-front : (l : List ℕ) (i m : ℕ) (vs : List ℕ) (x : ℕ) → suc m ≡ i → set (sets l i vs) m x ≡ sets l m (x ∷ vs)
 sets-front l i m vs x e = rw (← e) (sets-set l (suc m) vs m x (omega arith))
 
--- two runs of stores that do not meet, in either order
-pub sets-swap : (l : List ℕ) (i : ℕ) (a : List ℕ) (j : ℕ) (b : List ℕ) → i + length a ≤ j → sets (sets l j b) i a ≡ sets (sets l i a) j b
-sets-swap l i [] j b h = refl
-sets-swap l i (x ∷ a) j b h = rw (sets-set l j b i x (omega arith)) (sets-swap (set l i x) (suc i) a j b (omega arith))
-
 -- stores past the end do nothing
 pub sets-past : (l : List ℕ) (i : ℕ) (vs : List ℕ) → length l ≤ i → sets l i vs ≡ l
 sets-past l i [] h = refl

@@ -1,89 +1,73 @@
+-- Each arm gives the first row of the table that has its fifth byte, which antt computes; the last arm's byte is in no row and not zero.
+-- Assumes nothing.
 use Rattle.ids.specs.Ids.{ids}
-use Rattle.ids.specs.Which.{rowBy}
+use Rattle.ids.specs.Which.{rowByFifth}
 use borrow.Author.Tests.{ne-eqb}
 use Rattle.ids.proofs.candidate.Statement.{statement}
 use Rattle.ids.proofs.candidate.Tie as tie
-use Rattle.ids.proofs.candidate.Reads as reads
-use Rattle.ids.proofs.candidate.Lts as lts
 
--- src/lib.rt:152:1
 returns : tie.Need-returns
-unfolding rowBy ids
+unfolding rowByFifth ids
 returns c = simp (c .match .keys1)
 
--- src/lib.rt:152:1
 returns-2 : tie.Need-returns-2
-unfolding rowBy ids
+unfolding rowByFifth ids
 returns-2 c = simp (c .match .keys2)
 
--- src/lib.rt:152:1
 returns-3 : tie.Need-returns-3
-unfolding rowBy ids
+unfolding rowByFifth ids
 returns-3 c = simp (c .match .keys3)
 
--- src/lib.rt:152:1
 returns-4 : tie.Need-returns-4
-unfolding rowBy ids
+unfolding rowByFifth ids
 returns-4 c = simp (c .match .keys4)
 
--- src/lib.rt:152:1
 returns-5 : tie.Need-returns-5
-unfolding rowBy ids
+unfolding rowByFifth ids
 returns-5 c = simp (c .match .keys5)
 
--- src/lib.rt:152:1
 returns-6 : tie.Need-returns-6
-unfolding rowBy ids
+unfolding rowByFifth ids
 returns-6 c = simp (c .match .keys6)
 
--- src/lib.rt:152:1
 returns-7 : tie.Need-returns-7
-unfolding rowBy ids
+unfolding rowByFifth ids
 returns-7 c = simp (c .match .keys7)
 
--- src/lib.rt:152:1
 returns-8 : tie.Need-returns-8
-unfolding rowBy ids
+unfolding rowByFifth ids
 returns-8 c = simp (c .match .keys8)
 
--- src/lib.rt:152:1
 returns-9 : tie.Need-returns-9
-unfolding rowBy ids
+unfolding rowByFifth ids
 returns-9 c = simp (c .match .keys9)
 
--- src/lib.rt:152:1
 returns-10 : tie.Need-returns-10
-unfolding rowBy ids
+unfolding rowByFifth ids
 returns-10 c = simp (c .match .keys10)
 
--- src/lib.rt:152:1
 returns-11 : tie.Need-returns-11
-unfolding rowBy ids
+unfolding rowByFifth ids
 returns-11 c = simp (c .match .keys11)
 
--- src/lib.rt:152:1
 returns-12 : tie.Need-returns-12
-unfolding rowBy ids
+unfolding rowByFifth ids
 returns-12 c = simp (c .match .keys12)
 
--- src/lib.rt:152:1
 returns-13 : tie.Need-returns-13
-unfolding rowBy ids
+unfolding rowByFifth ids
 returns-13 c = simp (c .match .keys13)
 
--- src/lib.rt:152:1
 returns-14 : tie.Need-returns-14
-unfolding rowBy ids
+unfolding rowByFifth ids
 returns-14 c = simp (c .match .keys14)
 
--- src/lib.rt:152:1
 returns-15 : tie.Need-returns-15
-unfolding rowBy ids
+unfolding rowByFifth ids
 returns-15 c = simp (c .match .keys15)
 
--- src/lib.rt:152:1
 returns-16 : tie.Need-returns-16
-unfolding rowBy ids
+unfolding rowByFifth ids
 returns-16 c =
     let r = c .match .rest in
     simp (ne-eqb _ 215 (r .0 .0 .0 .0 .0 .0 .0 .0 .0 .0 .0 .0 .0 .0 .1), ne-eqb _ 238 (r .0 .0 .0 .0 .0 .0 .0 .0 .0 .0 .0 .0 .0 .1), ne-eqb _ 254 (r .0 .0 .0 .0 .0 .0 .0 .0 .0 .0 .0 .0 .1), ne-eqb _ 229 (r .0 .0 .0 .0 .0 .0 .0 .0 .0 .0 .0 .1), ne-eqb _ 78 (r .0 .0 .0 .0 .0 .0 .0 .0 .0 .0 .1), ne-eqb _ 153 (r .0 .0 .0 .0 .0 .0 .0 .0 .0 .1), ne-eqb _ 147 (r .0 .0 .0 .0 .0 .0 .0 .0 .1), ne-eqb _ 77 (r .0 .0 .0 .0 .0 .0 .0 .1), ne-eqb _ 130 (r .0 .0 .0 .0 .0 .0 .1), ne-eqb _ 4 (r .0 .0 .0 .0 .0 .1), ne-eqb _ 79 (r .0 .0 .0 .0 .1), ne-eqb _ 54 (r .0 .0 .0 .1), ne-eqb _ 142 (r .0 .0 .1), ne-eqb _ 188 (r .0 .1), ne-eqb _ 0 (r .1))

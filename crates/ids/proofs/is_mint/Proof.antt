@@ -1,12 +1,11 @@
+-- The two tests are the definition's.
+-- Assumes nothing.
 use borrow.Author.Tests.{eq-eqb, ne-eqb}
 use Rattle.ids.specs.Keys.{zeroKey}
 use Rattle.ids.specs.Mints.{isMint}
 use borrow.Author.Needs.{needs}
 use Rattle.ids.proofs.is_mint.Statement.{statement}
 use Rattle.ids.proofs.is_mint.Tie as tie
-use Rattle.ids.proofs.is_mint.Reads as reads
-use Rattle.ids.proofs.is_mint.Lts as lts
-use Rattle.wire.proofs.equal.Reads as equal-reads
 
 slice-aggregate-equal : tie.Need-slice-aggregate-equal
 slice-aggregate-equal c = search needs

@@ -1,3 +1,5 @@
+-- The table is the ids, whose 448 bytes hold row k whole.
+-- Assumes nothing.
 use native.Mathlib.Omega.{arith}
 use native.Mathlib.Nat.{add-sub-cancel-left}
 use mathlib.Core.Path.{_∙_, ap}
@@ -6,35 +8,25 @@ use Rattle.ids.proofs.Rule.{ids-length}
 use borrow.Author.Needs.{needs}
 use Rattle.ids.proofs.is_row.Statement.{statement}
 use Rattle.ids.proofs.is_row.Tie as tie
-use Rattle.ids.proofs.is_row.Reads as reads
-use Rattle.ids.proofs.is_row.Lts as lts
-use Rattle.wire.proofs.equal.Reads as equal-reads
 
--- src/lib.rt:111:14
 mul-at : tie.Need-mul-at
 mul-at c = search needs
 
--- src/lib.rt:112:28
 add-equal : tie.Need-add-equal
 add-equal c = search needs
 
--- src/lib.rt:112:17
 sub-equal : tie.Need-sub-equal
 sub-equal c = search needs
 
--- src/lib.rt:112:17
 part-equal-start : tie.Need-part-equal-start
 part-equal-start c = search needs
 
--- src/lib.rt:112:17
 part-equal-end : tie.Need-part-equal-end
 part-equal-end c = omega (arith, ap length (c .before .before .pre .0) ∙ ids-length)
 
--- src/lib.rt:112:5
 equal-requires : tie.Need-equal-requires
 equal-requires c κs = search needs
 
--- src/lib.rt:107:1
 returns : tie.Need-returns
 returns c = c .equal .ensures ∙ rw (c .before .before .before .before .pre .0, add-sub-cancel-left)
 

@@ -1,91 +1,74 @@
+-- The arms are the definition's tests in its order, and a number that has no arm fails them all.
+-- Assumes nothing.
 use Rattle.ids.specs.Which.{ofNumber}
 use borrow.Author.Tests.{ne-eqb}
 use Rattle.ids.proofs.of_number.Statement.{statement}
 use Rattle.ids.proofs.of_number.Tie as tie
-use Rattle.ids.proofs.of_number.Reads as reads
-use Rattle.ids.proofs.of_number.Lts as lts
 
--- src/lib.rt:125:1
 returns : tie.Need-returns
 unfolding ofNumber
 returns c = simp (c .match .keys1)
 
--- src/lib.rt:125:1
 returns-2 : tie.Need-returns-2
 unfolding ofNumber
 returns-2 c = simp (c .match .keys2)
 
--- src/lib.rt:125:1
 returns-3 : tie.Need-returns-3
 unfolding ofNumber
 returns-3 c = simp (c .match .keys3)
 
--- src/lib.rt:125:1
 returns-4 : tie.Need-returns-4
 unfolding ofNumber
 returns-4 c = simp (c .match .keys4)
 
--- src/lib.rt:125:1
 returns-5 : tie.Need-returns-5
 unfolding ofNumber
 returns-5 c = simp (c .match .keys5)
 
--- src/lib.rt:125:1
 returns-6 : tie.Need-returns-6
 unfolding ofNumber
 returns-6 c = simp (c .match .keys6)
 
--- src/lib.rt:125:1
 returns-7 : tie.Need-returns-7
 unfolding ofNumber
 returns-7 c = simp (c .match .keys7)
 
--- src/lib.rt:125:1
 returns-8 : tie.Need-returns-8
 unfolding ofNumber
 returns-8 c = simp (c .match .keys8)
 
--- src/lib.rt:125:1
 returns-9 : tie.Need-returns-9
 unfolding ofNumber
 returns-9 c = simp (c .match .keys9)
 
--- src/lib.rt:125:1
 returns-10 : tie.Need-returns-10
 unfolding ofNumber
 returns-10 c = simp (c .match .keys10)
 
--- src/lib.rt:125:1
 returns-11 : tie.Need-returns-11
 unfolding ofNumber
 returns-11 c = simp (c .match .keys11)
 
--- src/lib.rt:125:1
 returns-12 : tie.Need-returns-12
 unfolding ofNumber
 returns-12 c = simp (c .match .keys12)
 
--- src/lib.rt:125:1
 returns-13 : tie.Need-returns-13
 unfolding ofNumber
 returns-13 c = simp (c .match .keys13)
 
--- src/lib.rt:125:1
 returns-14 : tie.Need-returns-14
 unfolding ofNumber
 returns-14 c = simp (c .match .keys14)
 
--- src/lib.rt:125:1
 returns-15 : tie.Need-returns-15
 unfolding ofNumber
 returns-15 c = simp (c .match .keys15)
 
--- src/lib.rt:125:1
 returns-16 : tie.Need-returns-16
 unfolding ofNumber
 returns-16 c = simp (c .match .keys16)
 
--- src/lib.rt:125:1
 returns-17 : tie.Need-returns-17
 unfolding ofNumber
 returns-17 c =

@@ -1,12 +1,10 @@
+-- The key that is put is the one that is looked up, and the stand-in is the zero key.
+-- Assumes nothing.
 use mathlib.Core.Path.{_∙_}
 use Rattle.ids.specs.Keys.{zeroKey}
 use borrow.Author.Needs.{needs}
 use Rattle.ids.proofs.put_key.Statement.{statement}
 use Rattle.ids.proofs.put_key.Tie as tie
-use Rattle.ids.proofs.put_key.Reads as reads
-use Rattle.ids.proofs.put_key.Lts as lts
-use Rattle.ids.proofs.key.Reads as key-reads
-use Rattle.wire.proofs.put.Reads as put-reads
 
 slice-aggregate-key : tie.Need-slice-aggregate-key
 slice-aggregate-key c = search needs

@@ -1,3 +1,5 @@
+-- Flag and mint lie side by side, a mint that is absent is 33 zeros, and nothing can be written past the end.
+-- Assumes nothing.
 use mathlib.Core.Path.{sym, _∙_}
 use native.Mathlib.Numerals.{add-one}
 use Rattle.ids.specs.Mints.{mintOf, mintField}
@@ -5,14 +7,11 @@ use Rattle.wire.proofs.Sets.{sets-past}
 use borrow.Author.Needs.{needs}
 use Rattle.ids.proofs.put_mint.Statement.{statement}
 use Rattle.ids.proofs.put_mint.Tie as tie
-use Rattle.ids.proofs.put_mint.Reads as reads
-use Rattle.ids.proofs.put_mint.Lts as lts
-use Rattle.ids.proofs.is_mint.Reads as is-mint-reads
-use Rattle.wire.proofs.put.Reads as put-reads
-use Rattle.wire.proofs.put_byte.Reads as put-byte-reads
 
 returns : tie.Need-returns
-returns c = sym (sets-past (c .before .before .before .args .out .now) (c .before .before .before .args .at) (mintField (mintOf (c .before .before .before .args .mint .now))) (c .if1 .taken))
+returns c =
+    let a = c .before .before .before .args in
+    sym (sets-past (a .out .now) (a .at) (mintField (mintOf (a .mint .now))) (c .if1 .taken))
 
 is-mint-requires : tie.Need-is-mint-requires
 is-mint-requires c κs = search needs
@@ -37,14 +36,20 @@ same-length c = search needs
 
 returns-2 : tie.Need-returns-2
 unfolding mintOf
-returns-2 c = rw (c .before .before .put .ensures, c .before .before .before .before .before .before .put-byte .ensures, sym (c .before .before .before .before .before .before .before .before .before .is-mint .ensures) ∙ c .before .before .before .before .before .before .before .before .if2 .taken, add-one)
+returns-2 c =
+    let rest = c .before .before in
+    let flag = rest .before .before .before .before in
+    let test = flag .before .before in
+    rw (rest .put .ensures, flag .put-byte .ensures, sym (test .before .is-mint .ensures) ∙ test .if2 .taken, add-one)
 
 same-length-2 : tie.Need-same-length-2
 same-length-2 c = search needs
 
 returns-3 : tie.Need-returns-3
 unfolding mintOf
-returns-3 c = rw (c .before .before .put2 .ensures, sym (c .before .before .before .before .before .before .is-mint .ensures) ∙ c .before .before .before .before .before .if2 .left)
+returns-3 c =
+    let test = c .before .before .before .before .before in
+    rw (c .before .before .put2 .ensures, sym (test .before .is-mint .ensures) ∙ test .if2 .left)
 
 pub put-mint-spec : {M : Type 1} → statement M
 put-mint-spec =

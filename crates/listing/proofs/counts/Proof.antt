@@ -1,3 +1,5 @@
+-- Five numbers are put, each behind the one before.
+-- Assumes nothing.
 use Rattle.listing.proofs.Putting.{puts-next}
 use Rattle.listing.specs.Listing.{counts}
 use borrow.Author.Needs.{needs}
@@ -25,7 +27,12 @@ same-length c = search needs
 returns : tie.Need-returns
 unfolding counts
 returns c =
-    puts-next (puts-next (puts-next (puts-next (c .before .before .before .before .before .before .before .before .before .before .before .before .before .before .before .before .before .before .field .ensures) (c .before .before .before .before .before .before .before .before .before .before .before .before .before .before .field2 .ensures)) (c .before .before .before .before .before .before .before .before .before .before .field3 .ensures)) (c .before .before .before .before .before .before .field4 .ensures)) (c .before .before .field5 .ensures)
+    let e = c .before .before in
+    let d = e .before .before .before .before in
+    let h = d .before .before .before .before in
+    let g = h .before .before .before .before in
+    let f = g .before .before .before .before in
+    puts-next (puts-next (puts-next (puts-next (f .field .ensures) (g .field2 .ensures)) (h .field3 .ensures)) (d .field4 .ensures)) (e .field5 .ensures)
 
 pub counts-spec : {M : Type 1} → statement M
 counts-spec =

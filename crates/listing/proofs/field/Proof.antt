@@ -1,5 +1,7 @@
+-- The number is put behind a space.
+-- Assumes nothing.
 use Rattle.listing.proofs.Putting.{puts-next}
-use Rattle.listing.specs.Listing.{field}
+use Rattle.listing.specs.Listing.{spaced}
 use borrow.Author.Needs.{needs}
 use Rattle.listing.proofs.field.Statement.{statement}
 use Rattle.listing.proofs.field.Tie as tie
@@ -17,7 +19,7 @@ same-length : tie.Need-same-length
 same-length c = search needs
 
 returns : tie.Need-returns
-unfolding field
+unfolding spaced
 returns c = puts-next (c .before .before .before .before .before .before .word .ensures) (c .before .before .number .ensures)
 
 pub field-spec : {M : Type 1} → statement M

@@ -1,3 +1,5 @@
+-- The words and numbers of the line are put, each behind the one before.
+-- Assumes nothing.
 use Rattle.listing.proofs.Putting.{puts-next}
 use Rattle.listing.specs.Listing.{head}
 use borrow.Author.Needs.{needs}
@@ -37,7 +39,12 @@ same-length c = search needs
 returns : tie.Need-returns
 unfolding head
 returns c =
-    puts-next (puts-next (puts-next (puts-next (c .before .before .before .before .before .before .before .before .before .before .before .before .before .before .before .before .before .before .before .before .before .word .ensures) (c .before .before .before .before .before .before .before .before .before .before .before .before .before .before .before .before .before .counts .ensures)) (c .before .before .before .before .before .before .before .before .before .before .before .before .named .ensures)) (c .before .before .before .before .before .before .before .named2 .ensures)) (c .before .before .word2 .ensures)
+    let w = c .before .before in
+    let t = w .before .before .before .before .before in
+    let p = t .before .before .before .before .before in
+    let n = p .before .before .before .before .before in
+    let o = n .before .before .before .before in
+    puts-next (puts-next (puts-next (puts-next (o .word .ensures) (n .counts .ensures)) (p .named .ensures)) (t .named2 .ensures)) (w .word2 .ensures)
 
 pub head-spec : {M : Type 1} → statement M
 head-spec =

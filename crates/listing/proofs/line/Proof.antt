@@ -1,3 +1,5 @@
+-- Where it stands, its end and its bits are put, each behind the one before.
+-- Assumes nothing.
 use Rattle.listing.proofs.Putting.{puts-next}
 use Rattle.listing.specs.Listing.{line}
 use borrow.Author.Needs.{needs}
@@ -34,8 +36,12 @@ same-length c = search needs
 returns : tie.Need-returns
 unfolding line
 returns c =
-    rw (← c .before .before .before .before .before .before .before .before .before .before .before .before .before .u32-at .ensures, ← c .before .before .before .before .before .before .before .before .byte .ensures)
-    (puts-next (puts-next (puts-next (c .before .before .before .before .before .before .before .before .before .before .before .before .before .before .before .before .before .position .ensures) (c .before .before .before .before .before .before .before .before .before .before .before .before .field .ensures)) (c .before .before .before .before .before .before .before .field2 .ensures)) (c .before .before .word .ensures))
+    let w = c .before .before in
+    let b = w .before .before .before .before .before in
+    let e = b .before .before .before .before .before in
+    let p = e .before .before .before .before .before in
+    rw (← e .before .u32-at .ensures, ← b .before .byte .ensures)
+    (puts-next (puts-next (puts-next (p .position .ensures) (e .field .ensures)) (b .field2 .ensures)) (w .word .ensures))
 
 pub line-spec : {M : Type 1} → statement M
 line-spec =

@@ -1,3 +1,5 @@
+-- The lines of the rows before i stand one behind the other, each of at most 55 bytes.
+-- Assumes nothing.
 use native.Mathlib.Nat.{add-sub-cancel-left}
 use lib.ListN.{length}
 use lib.Seq.{length-sets}
@@ -5,14 +7,14 @@ use mathlib.Core.Path.{_≡_, ap, _∙_}
 use Rattle.listing.proofs.Putting.{puts-none, puts-wider}
 use Rattle.listing.proofs.Listing.{puts-line}
 use Rattle.listing.specs.Listing.{linesFrom}
-use Rattle.listing.specs.Puts.{Puts}
+use Rattle.listing.specs.Puts.{PutsText}
 use Prim.Native.Nat.{_*_, _-_, _≤_}
 use native.Mathlib.Omega.{arith}
 use Rattle.listing.proofs.lines.Statement.{statement}
 use Rattle.listing.proofs.lines.Tie as tie
 
 abbrev Inv-loop : tie.InvT-loop
-Inv-loop out₀ from rows n at₀ i₀ out at i = (i ≤ n) × Puts (i * 55) out₀ from (linesFrom rows i 0) out at
+Inv-loop out₀ from rows n at₀ i₀ out at i = (i ≤ n) × PutsText (i * 55) out₀ from (linesFrom rows i 0) out at
 
 abbrev μ-loop : tie.MeasureT-loop
 μ-loop out₀ from rows n at₀ i₀ out at i = n - i

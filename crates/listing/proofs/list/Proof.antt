@@ -1,3 +1,5 @@
+-- `route` leaves the answer and the rows that the definition lists, and all rows that it counts are in the lent table.
+-- Assumes nothing.
 use native.Mathlib.Nat.{sub-zero}
 use Rattle.route.specs.Widths.{invocationWidth}
 use Rattle.listing.proofs.Room.{rows-fit}
@@ -64,10 +66,12 @@ same-length c = search needs
 
 returns : tie.Need-returns
 returns c =
-    let l = c .before .before .before .before .before .before .before .before .before .before .before .before .before .before .before .before .before .before .before .before .before .args .input .now in
-    let s = c .before .before .before .before .before .before .before .before .before .before .before .before .before .before .before .before .before .before .names-end in
+    let r = c .before .before .before .before .before .before .before .before .before .before in
+    let e = r .before .before .before .before .before .before .before .before in
+    let l = e .before .before .before .args .input .now in
+    let s = e .names-end in
     let rest = take-all (length l - s .result) (drop (s .result) l) (simp length-drop (omega arith)) ∙ s .ensures .2 in
-    rw (listing-by l (c .before .before .before .before .before .before .before .before .before .before .route .ensures) (rw (sub-zero (s .result)) (s .ensures .1)) rest refl) at (c .before .before .listed .ensures)
+    rw (listing-by l (r .route .ensures) (rw (sub-zero (s .result)) (s .ensures .1)) rest refl) at (c .before .before .listed .ensures)
 
 pub list-spec : {M : Type 1} → statement M
 list-spec =

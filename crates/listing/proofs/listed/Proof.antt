@@ -1,3 +1,5 @@
+-- A refusal is its one line; a success is its first line and those of the rows behind it.
+-- Assumes nothing.
 use Rattle.listing.proofs.Putting.{puts-next, puts-wider}
 use Rattle.listing.specs.Listing.{listed}
 use borrow.Author.Tests.{eq-eqb, ne-eqb}
@@ -14,7 +16,9 @@ same-length c = search needs
 
 returns : tie.Need-returns
 unfolding listed
-returns c = rw (ne-eqb (c .before .before .before .before .before .before .before .before .args .a .number) 0 (c .before .before .before .before .if1 .taken)) (puts-wider 65536 (omega arith) (c .before .before .refused .ensures))
+returns c =
+    let d = c .before .before .before .before in
+    rw (ne-eqb (d .before .before .before .before .args .a .number) 0 (d .if1 .taken)) (puts-wider 65536 (omega arith) (c .before .before .refused .ensures))
 
 head-requires : tie.Need-head-requires
 head-requires c κs = search needs
@@ -30,7 +34,10 @@ same-length-2 c = search needs
 
 returns-2 : tie.Need-returns-2
 unfolding listed
-returns-2 c = rw (eq-eqb (c .before .before .before .before .before .before .before .before .before .before .before .before .before .args .a .number) 0 (c .before .before .before .before .before .before .before .before .before .if1 .left)) (puts-wider 65536 (omega arith) (puts-next (c .before .before .before .before .before .before .before .head .ensures) (c .before .before .lines .ensures)))
+returns-2 c =
+    let h = c .before .before .before .before .before .before .before in
+    let d = h .before .before in
+    rw (eq-eqb (d .before .before .before .before .args .a .number) 0 (d .if1 .left)) (puts-wider 65536 (omega arith) (puts-next (h .head .ensures) (c .before .before .lines .ensures)))
 
 pub listed-spec : {M : Type 1} → statement M
 listed-spec =

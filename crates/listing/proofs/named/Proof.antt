@@ -1,5 +1,7 @@
+-- The number is put behind the word.
+-- Assumes nothing.
 use Rattle.listing.proofs.Putting.{puts-next}
-use Rattle.listing.specs.Listing.{named}
+use Rattle.listing.specs.Listing.{wordNumber}
 use borrow.Author.Needs.{needs}
 use Rattle.listing.proofs.named.Statement.{statement}
 use Rattle.listing.proofs.named.Tie as tie
@@ -14,7 +16,7 @@ same-length : tie.Need-same-length
 same-length c = search needs
 
 returns : tie.Need-returns
-unfolding named
+unfolding wordNumber
 returns c = puts-next (c .before .before .before .before .before .before .word .ensures) (c .before .before .field .ensures)
 
 pub named-spec : {M : Type 1} → statement M

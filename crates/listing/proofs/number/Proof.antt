@@ -1,3 +1,5 @@
+-- The kit writes the digits of `decimal`, and 32 bits have at most ten.
+-- Assumes nothing.
 use Rattle.listing.proofs.Decimal.{decimal-ten, fewest-decimal}
 use Rattle.listing.proofs.Putting.{puts-wider}
 use mathlib.Core.Path.{_∙_}

@@ -1,3 +1,5 @@
+-- The flag decides between a dash and the number.
+-- Assumes nothing.
 use Rattle.listing.proofs.Putting.{puts-wider}
 use Rattle.listing.specs.Listing.{optional}
 use borrow.Author.Tests.{eq-eqb, ne-eqb}
@@ -23,8 +25,10 @@ same-length c = search needs
 returns : tie.Need-returns
 unfolding optional
 returns c =
-    let a = c .before .before .before .before .before .before .before .before .before .args in
-    rw (eq-eqb (getD (a .row .now) (a .flag) 0) 0 (sym (c .before .before .before .before .before .before .byte .ensures) ∙ c .before .before .before .before .before .if1 .taken)) (puts-wider 11 (omega arith) (c .before .before .word .ensures))
+    let d = c .before .before .before .before .before in
+    let b = d .before .byte in
+    let a = d .before .before .before .before .args in
+    rw (eq-eqb (getD (a .row .now) (a .flag) 0) 0 (sym (b .ensures) ∙ d .if1 .taken)) (puts-wider 11 (omega arith) (c .before .before .word .ensures))
 
 add-u32-at : tie.Need-add-u32-at
 add-u32-at c = search needs
@@ -41,8 +45,10 @@ same-length-2 c = search needs
 returns-2 : tie.Need-returns-2
 unfolding optional
 returns-2 c =
-    let a = c .before .before .before .before .before .before .before .before .before .args in
-    rw (ne-eqb (getD (a .row .now) (a .flag) 0) 0 (λ e. c .before .before .before .before .before .if1 .left (c .before .before .before .before .before .before .byte .ensures ∙ e)), ← c .before .before .before .u32-at .ensures) (c .before .before .field .ensures)
+    let d = c .before .before .before .before .before in
+    let b = d .before .byte in
+    let a = d .before .before .before .before .args in
+    rw (ne-eqb (getD (a .row .now) (a .flag) 0) 0 (λ e. d .if1 .left (b .ensures ∙ e)), ← c .before .before .before .u32-at .ensures) (c .before .before .field .ensures)
 
 pub optional-spec : {M : Type 1} → statement M
 optional-spec =

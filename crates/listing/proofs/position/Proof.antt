@@ -1,3 +1,5 @@
+-- The three numbers are put, each behind the one before.
+-- Assumes nothing.
 use Rattle.listing.proofs.Putting.{puts-next}
 use Rattle.listing.specs.Listing.{position}
 use borrow.Author.Needs.{needs}
@@ -22,7 +24,10 @@ same-length c = search needs
 returns : tie.Need-returns
 unfolding position
 returns c =
-    rw (← c .before .before .before .before .before .before .before .before .before .before .before .u32-at .ensures) (puts-next (puts-next (c .before .before .before .before .before .before .before .before .before .before .number .ensures) (c .before .before .before .before .before .before .optional .ensures)) (c .before .before .optional2 .ensures))
+    let h = c .before .before in
+    let i = h .before .before .before .before in
+    let o = i .before .before .before .before in
+    rw (← o .before .u32-at .ensures) (puts-next (puts-next (o .number .ensures) (i .optional .ensures)) (h .optional2 .ensures))
 
 pub position-spec : {M : Type 1} → statement M
 position-spec =

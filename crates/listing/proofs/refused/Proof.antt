@@ -1,5 +1,7 @@
+-- The word and the two numbers are put, each behind the one before.
+-- Assumes nothing.
 use Rattle.listing.proofs.Putting.{puts-next}
-use Rattle.listing.specs.Listing.{refused}
+use Rattle.listing.specs.Listing.{refusalLine}
 use borrow.Author.Needs.{needs}
 use Rattle.listing.proofs.refused.Statement.{statement}
 use Rattle.listing.proofs.refused.Tie as tie
@@ -23,8 +25,12 @@ same-length : tie.Need-same-length
 same-length c = search needs
 
 returns : tie.Need-returns
-unfolding refused
-returns c = puts-next (puts-next (c .before .before .before .before .before .before .before .before .before .before .before .named .ensures) (c .before .before .before .before .before .before .before .field .ensures)) (c .before .before .word .ensures)
+unfolding refusalLine
+returns c =
+    let w = c .before .before in
+    let p = w .before .before .before .before .before in
+    let n = p .before .before .before .before in
+    puts-next (puts-next (n .named .ensures) (p .field .ensures)) (w .word .ensures)
 
 pub refused-spec : {M : Type 1} → statement M
 refused-spec =

@@ -1,3 +1,4 @@
+-- The three calls write what they promise: the ordered rows, their bytes, and the mints by key index; ordered rows are whole rows of the table.
 use Rattle.mints.proofs.Sorting.{sort-fits, sort-length}
 use lib.ListN.{length}
 use mathlib.Core.Path.{_≡_, _∙_}
@@ -11,47 +12,41 @@ use Rattle.mints.proofs.order.sort.Reads as sort-reads
 use Rattle.mints.proofs.order.write_mints.Reads as write-mints-reads
 use Rattle.mints.proofs.order.write_rows.Reads as write-rows-reads
 
--- src/lib.rt:69:38
 slice-aggregate-sort : tie.Need-slice-aggregate-sort
 slice-aggregate-sort c = search needs
 
--- src/lib.rt:69:9
 sort-requires : tie.Need-sort-requires
 sort-requires c κs = search needs
 
--- src/lib.rt:70:30
 slice-aggregate-write-rows : tie.Need-slice-aggregate-write-rows
 slice-aggregate-write-rows c = search needs
 
--- src/lib.rt:70:5
 write-rows-requires : tie.Need-write-rows-requires
 write-rows-requires c κs =
-    let t = c .before .before .before .before .before .before .before .before .before .args .table .now in
-    let n = c .before .before .before .before .before .before .before .before .before .args .rows in
-    let q = c .before .before .before .sort .ensures in
-    let o : length (c .before .before .before .sort .last .1 .1 .0) ≡ 257 = c .before .before .before .sort .kept .1 .1 .0 in (
+    let start = c .before .before .before .before .before .before .before .before .before in
+    let sort = c .before .before .before .sort in
+    let t = start .args .table .now in
+    let n = start .args .rows in
+    let q = sort .ensures in
+    let o : length (sort .last .1 .1 .0) ≡ 257 = sort .kept .1 .1 .0 in (
       omega (arith, q .0, sort-length t n, o),
       omega (arith, q .0, sort-length t n),
       rw (q .1) (sort-fits t n (omega arith) (omega arith)),
     )
 
--- src/lib.rt:71:5
 write-mints-requires : tie.Need-write-mints-requires
 write-mints-requires c κs = search needs
 
--- src/lib.rt:64:1
 same-length : tie.Need-same-length
 same-length c = search needs
 
--- src/lib.rt:64:1
 same-length-2 : tie.Need-same-length-2
 same-length-2 c = search needs
 
--- src/lib.rt:64:1
 returns : tie.Need-returns
 returns c =
     let q = c .before .before .before .before .before .before .before .before .before .before .sort .ensures in
-    (q .0, c .before .before .before .before .before .before .write-rows .ensures ∙ rw (q .1), c .before .before .write-mints .ensures)
+    (q .0, (c .before .before .before .before .before .before .write-rows .ensures ∙ rw (q .1), c .before .before .write-mints .ensures))
 
 pub publish-spec : {M : Type 1} → statement M
 publish-spec =

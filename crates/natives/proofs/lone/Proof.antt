@@ -1,3 +1,5 @@
+-- Data is the tag alone exactly when it is one byte and that byte is the tag (`alone`).
+-- Assumes nothing.
 use mathlib.Core.Path.{sym, _∙_}
 use mathlib.Core.Bool.{and-false}
 use mathlib.Core.List.{[], _∷_}
@@ -7,39 +9,31 @@ use Rattle.natives.proofs.Forms.{alone}
 use borrow.Author.Needs.{needs}
 use Rattle.natives.proofs.lone.Statement.{statement}
 use Rattle.natives.proofs.lone.Tie as tie
-use Rattle.natives.proofs.lone.Reads as reads
-use Rattle.natives.proofs.lone.Lts as lts
-use Rattle.token.proofs.token_program.Reads as token-program-reads
 
--- src/lib.rt:75:9
 token-program-requires : tie.Need-token-program-requires
 token-program-requires c κs = search needs
 
--- src/lib.rt:76:9
 returns : tie.Need-returns
 returns c = simp (sym (c .before .token-program .ensures) ∙ not-true (c .before .token-program .result) (c .if1 .taken))
 
--- src/lib.rt:79:9
 returns-2 : tie.Need-returns-2
 returns-2 c =
     let a = c .before .before .before .before .args in
     simp (same-not-long (a .«data» .now) (a .tag ∷ []) (c .if2 .taken), and-false)
 
--- src/lib.rt:81:8
 shared-slice-read-if3 : tie.Need-shared-slice-read-if3
 shared-slice-read-if3 c = search needs
 
--- src/lib.rt:82:9
 returns-3 : tie.Need-returns-3
 returns-3 c =
     let a = c .before .before .before .before .before .before .args in
     simp (same-not-at (a .«data» .now) (a .tag ∷ []) 0 (c .if3 .taken), and-false)
 
--- src/lib.rt:72:1
 returns-4 : tie.Need-returns-4
 returns-4 c =
-    let a = c .before .before .before .before .before .before .args in
-    simp (sym (c .before .before .before .before .token-program .ensures) ∙ not-false (c .before .before .before .before .token-program .result) (c .before .before .before .if1 .left), alone (a .«data» .now) (a .tag) (c .before .before .if2 .left) (c .if3 .left))
+    let program = c .before .before .before .before in
+    let a = program .before .before .args in
+    simp (sym (program .token-program .ensures) ∙ not-false (program .token-program .result) (c .before .before .before .if1 .left), alone (a .«data» .now) (a .tag) (c .before .before .if2 .left) (c .if3 .left))
 
 pub lone-spec : {M : Type 1} → statement M
 lone-spec =

@@ -18,44 +18,88 @@ use borrow.Author.Needs.{needs}
 use Rattle.pack.proofs.judge.Statement.{statement}
 use Rattle.pack.proofs.judge.Tie as tie
 
--- what is known after each test that was passed
+-- from the place of a test back to one before it
+abbrev section-at : tie.After-section2 → tie.After-section
+section-at c = c .before .before .before
+
+abbrev section2-at : tie.After-section3 → tie.After-section2
+section2-at c = c .before .before
+
+abbrev section3-at : tie.After-section4 → tie.After-section3
+section3-at c = c .before .before .before .before .before
+
+abbrev section4-at : tie.After-section5 → tie.After-section4
+section4-at c = c .before .before .before .before .before
+
+-- the pack, as it is seen from a place
 abbrev pack-of : tie.After-ordered → List ℕ
 pack-of c = c .before .before .before .before .args .pack .now
 
+abbrev pack-1 : tie.After-section → List ℕ
+pack-1 c = pack-of (c .before .before)
+
+abbrev pack-2 : tie.After-section2 → List ℕ
+pack-2 c = pack-1 (section-at c)
+
+abbrev pack-3 : tie.After-section3 → List ℕ
+pack-3 c = pack-2 (section2-at c)
+
+abbrev pack-4 : tie.After-section4 → List ℕ
+pack-4 c = pack-3 (section3-at c)
+
+abbrev pack-5 : tie.After-section5 → List ℕ
+pack-5 c = pack-4 (section4-at c)
+
+-- what is known after each test that was passed
 marked-yes : (c : tie.After-ordered) → marked (pack-of c) ≡ true
 marked-yes c = sym (c .before .before .marked .ensures) ∙ not-false _ (c .before .if1 .left)
 
-ordered-yes : (c : tie.After-section) → ordered (pack-of (c .before .before)) ≡ true
+ordered-yes : (c : tie.After-section) → ordered (pack-1 c) ≡ true
 ordered-yes c = sym (c .before .before .ordered .ensures) ∙ not-false _ (c .before .if2 .left)
 
-keys-yes : (c : tie.After-section2) → keysFill (sectionOf (pack-of (c .before .before .before .before .before)) 0) ≡ true
-keys-yes c = rw (← c .before .before .before .section .ensures) (sym (c .before .before .keys .ensures) ∙ not-false _ (c .before .if3 .left))
+keys-yes : (c : tie.After-section2) → keysFill (sectionOf (pack-2 c) 0) ≡ true
+keys-yes c = rw (← section-at c .section .ensures) (sym (c .before .before .keys .ensures) ∙ not-false _ (c .before .if3 .left))
 
-balances-yes : (c : tie.After-section3) → rowsFill 36 (sectionOf (pack-of (c .before .before .before .before .before .before .before)) 1) ≡ true
+balances-yes : (c : tie.After-section3) → rowsFill 36 (sectionOf (pack-3 c) 1) ≡ true
 unfolding rowsFill
-balances-yes c = rw (← c .before .before .section2 .ensures) (eq-eqb _ _ (c .before .if4 .left))
+balances-yes c = rw (← section2-at c .section2 .ensures) (eq-eqb _ _ (c .before .if4 .left))
 
-outers-yes : (c : tie.After-section4) → (outersWhole (sectionOf (pack-of (c .before .before .before .before .before .before .before .before .before .before .before .before)) 2) ≡ true) × (c .before .before .outers2 .given .0 .0 ≡ length (outerIn (sectionOf (pack-of (c .before .before .before .before .before .before .before .before .before .before .before .before)) 2)))
+-- the first four together
+early : (c : tie.After-section3)
+    → (marked (pack-3 c) ≡ true) × (ordered (pack-3 c) ≡ true) × (keysFill (sectionOf (pack-3 c) 0) ≡ true) × (rowsFill 36 (sectionOf (pack-3 c) 1) ≡ true)
+early c =
+    let k = section2-at c in
+    let s = section-at k in
+    (marked-yes (s .before .before), ordered-yes s, keys-yes k, balances-yes c)
+
+outers-yes : (c : tie.After-section4)
+    → (outersWhole (sectionOf (pack-4 c) 2) ≡ true) × (c .before .before .outers2 .given .0 .0 ≡ length (outerIn (sectionOf (pack-4 c) 2)))
 outers-yes c =
-    let s = sectionOf (pack-of (c .before .before .before .before .before .before .before .before .before .before .before .before)) 2 in
-    count-of (outersWhole s) (length (outerIn s)) (c .before .before .outers2 .given .0 .0) (rw (← c .before .before .before .before .before .section3 .ensures) (sym (c .before .before .outers2 .given .1) ∙ c .before .before .before .before .outers .ensures))
+    let s = sectionOf (pack-4 c) 2 in
+    let o = c .before .before .outers2 .given in
+    count-of (outersWhole s) (length (outerIn s)) (o .0 .0) (rw (← section3-at c .section3 .ensures) (sym (o .1) ∙ c .before .before .before .before .outers .ensures))
 
-groups-yes : (c : tie.After-section5) → (groupsWhole (sectionOf (pack-of (c .before .before .before .before .before .before .before .before .before .before .before .before .before .before .before .before .before)) 3) ≡ true) × (c .before .before .inners .given .0 .0 ≡ keptIn (length (outerIn (sectionOf (pack-of (c .before .before .before .before .before .before .before .before .before .before .before .before .before .before .before .before .before)) 2))) (groupsIn (sectionOf (pack-of (c .before .before .before .before .before .before .before .before .before .before .before .before .before .before .before .before .before)) 3)))
+groups-yes : (c : tie.After-section5)
+    → (groupsWhole (sectionOf (pack-5 c) 3) ≡ true) × (c .before .before .inners .given .0 .0 ≡ keptIn (length (outerIn (sectionOf (pack-5 c) 2))) (groupsIn (sectionOf (pack-5 c) 3)))
 groups-yes c =
-    let p = pack-of (c .before .before .before .before .before .before .before .before .before .before .before .before .before .before .before .before .before) in
+    let p = pack-5 c in
     let s = sectionOf p 3 in
-    count-of (groupsWhole s) (keptIn (length (outerIn (sectionOf p 2))) (groupsIn s)) (c .before .before .inners .given .0 .0)
-    (rw (← c .before .before .before .before .before .section4 .ensures, ← outers-yes (c .before .before .before .before .before) .1) (sym (c .before .before .inners .given .1) ∙ c .before .before .before .before .groups .ensures))
+    let i = c .before .before .inners .given in
+    count-of (groupsWhole s) (keptIn (length (outerIn (sectionOf p 2))) (groupsIn s)) (i .0 .0)
+    (rw (← section4-at c .section4 .ensures, ← outers-yes (section4-at c) .1) (sym (i .1) ∙ c .before .before .before .before .groups .ensures))
 
-pools-yes : (c : tie.Else5) → rowsFill 32 (sectionOf (pack-of (c .before .before .before .before .before .before .before .before .before .before .before .before .before .before .before .before .before .before)) 4) ≡ true
+pools-yes : (c : tie.Else5) → rowsFill 32 (sectionOf (pack-5 (c .before)) 4) ≡ true
 unfolding rowsFill
 pools-yes c = rw (← c .before .section5 .ensures) (eq-eqb _ _ (c .if5 .left))
 
-few-keys : (c : tie.Else6) → ltb 256 (length (viewOf (pack-of (c .before .before .before .before .before .before .before .before .before .before .before .before .before .before .before .before .before .before .before)) .keys)) ≡ false
+-- the section that the keys were counted in
+keys-at : (c : tie.After-section5) → length (section-at (section2-at (section3-at (section4-at c))) .section .result .now) ≡ length (sectionOf (pack-5 c) 0)
+keys-at c = ap length (section-at (section2-at (section3-at (section4-at c))) .section .ensures)
+
+few-keys : (c : tie.Else6) → ltb 256 (length (viewOf (pack-5 (c .before .before)) .keys)) ≡ false
 few-keys c =
-    let p = pack-of (c .before .before .before .before .before .before .before .before .before .before .before .before .before .before .before .before .before .before .before) in
-    let e = keys-length p in
-    le-ltb 256 (length (viewOf p .keys)) (omega (arith, ap length (c .before .before .before .before .before .before .before .before .before .before .before .before .before .before .before .before .before .section .ensures), c .if6 .left))
+    let p = pack-5 (c .before .before) in
+    le-ltb 256 (length (viewOf p .keys)) (omega (arith, keys-length p, keys-at (c .before .before), c .if6 .left))
 
 marked-requires : tie.Need-marked-requires
 marked-requires c κs = search needs
@@ -80,8 +124,9 @@ keys-requires c κs = search needs
 returns-3 : tie.Need-returns-3
 unfolding verdict
 returns-3 c =
-    let e : keysFill (sectionOf (pack-of (c .before .before .before .before)) 0) ≡ false = rw (← c .before .before .section .ensures) (sym (c .before .keys .ensures) ∙ not-true _ (c .if3 .taken)) in
-    rw (marked-yes (c .before .before .before .before), ordered-yes (c .before .before), e)
+    let s = c .before .before in
+    let e : keysFill (sectionOf (pack-1 s) 0) ≡ false = rw (← s .section .ensures) (sym (c .before .keys .ensures) ∙ not-true _ (c .if3 .taken)) in
+    rw (marked-yes (s .before .before), ordered-yes s, e)
 
 section-requires-2 : tie.Need-section-requires-2
 section-requires-2 c κs = search needs
@@ -89,8 +134,10 @@ section-requires-2 c κs = search needs
 returns-4 : tie.Need-returns-4
 unfolding verdict rowsFill
 returns-4 c =
-    let e : eqb (length (sectionOf (pack-of (c .before .before .before .before .before .before)) 1) % 36) 0 ≡ false = rw (← c .before .section2 .ensures) (ne-eqb _ _ (c .if4 .taken)) in
-    rw (marked-yes (c .before .before .before .before .before .before), ordered-yes (c .before .before .before .before), keys-yes (c .before), e)
+    let k = c .before in
+    let s = section-at k in
+    let e : eqb (length (sectionOf (pack-2 k) 1) % 36) 0 ≡ false = rw (← k .section2 .ensures) (ne-eqb _ _ (c .if4 .taken)) in
+    rw (marked-yes (s .before .before), ordered-yes s, keys-yes k, e)
 
 section-requires-3 : tie.Need-section-requires-3
 section-requires-3 c κs = search needs
@@ -107,9 +154,11 @@ enum-told c = search needs
 returns-5 : tie.Need-returns-5
 unfolding verdict
 returns-5 c =
-    let s = sectionOf (pack-of (c .before .before .before .before .before .before .before .before .before .before)) 2 in
-    let e = count-broken (outersWhole s) (length (outerIn s)) (rw (← c .before .before .before .section3 .ensures) (sym (c .enum-told .given .1) ∙ c .before .before .outers .ensures)) in
-    rw (marked-yes (c .before .before .before .before .before .before .before .before .before .before), ordered-yes (c .before .before .before .before .before .before .before .before), keys-yes (c .before .before .before .before .before), balances-yes (c .before .before .before), e)
+    let d = c .before .before .before in
+    let w = early d in
+    let s = sectionOf (pack-3 d) 2 in
+    let e = count-broken (outersWhole s) (length (outerIn s)) (rw (← d .section3 .ensures) (sym (c .enum-told .given .1) ∙ c .before .before .outers .ensures)) in
+    rw (w .0, w .1, w .2, w .3, e)
 
 section-requires-4 : tie.Need-section-requires-4
 section-requires-4 c κs = search needs
@@ -126,9 +175,13 @@ enum-told-2 c = search needs
 returns-6 : tie.Need-returns-6
 unfolding verdict
 returns-6 c =
-    let p = pack-of (c .before .before .before .before .before .before .before .before .before .before .before .before .before .before .before) in
-    let e = count-broken (groupsWhole (sectionOf p 3)) (keptIn (length (outerIn (sectionOf p 2))) (groupsIn (sectionOf p 3))) (rw (← c .before .before .before .section4 .ensures, ← outers-yes (c .before .before .before) .1) (sym (c .enum-told2 .given .1) ∙ c .before .before .groups .ensures)) in
-    rw (marked-yes (c .before .before .before .before .before .before .before .before .before .before .before .before .before .before .before), ordered-yes (c .before .before .before .before .before .before .before .before .before .before .before .before .before), keys-yes (c .before .before .before .before .before .before .before .before .before .before), balances-yes (c .before .before .before .before .before .before .before .before), outers-yes (c .before .before .before) .0, e)
+    let d = c .before .before .before in
+    let w = early (section3-at d) in
+    let o = outers-yes d in
+    let p = pack-4 d in
+    let s = sectionOf p 3 in
+    let e = count-broken (groupsWhole s) (keptIn (length (outerIn (sectionOf p 2))) (groupsIn s)) (rw (← d .section4 .ensures, ← o .1) (sym (c .enum-told2 .given .1) ∙ c .before .before .groups .ensures)) in
+    rw (w .0, w .1, w .2, w .3, o .0, e)
 
 section-requires-5 : tie.Need-section-requires-5
 section-requires-5 c κs = search needs
@@ -136,42 +189,55 @@ section-requires-5 c κs = search needs
 returns-7 : tie.Need-returns-7
 unfolding verdict rowsFill
 returns-7 c =
-    let e : eqb (length (sectionOf (pack-of (c .before .before .before .before .before .before .before .before .before .before .before .before .before .before .before .before .before .before)) 4) % 32) 0 ≡ false = rw (← c .before .section5 .ensures) (ne-eqb _ _ (c .if5 .taken)) in
-    rw (marked-yes (c .before .before .before .before .before .before .before .before .before .before .before .before .before .before .before .before .before .before), ordered-yes (c .before .before .before .before .before .before .before .before .before .before .before .before .before .before .before .before), keys-yes (c .before .before .before .before .before .before .before .before .before .before .before .before .before), balances-yes (c .before .before .before .before .before .before .before .before .before .before .before), outers-yes (c .before .before .before .before .before .before) .0, groups-yes (c .before) .0, e)
+    let d = c .before in
+    let w = early (section3-at (section4-at d)) in
+    let e : eqb (length (sectionOf (pack-5 d) 4) % 32) 0 ≡ false = rw (← d .section5 .ensures) (ne-eqb _ _ (c .if5 .taken)) in
+    rw (w .0, w .1, w .2, w .3, outers-yes (section4-at d) .0, groups-yes d .0, e)
 
 returns-8 : tie.Need-returns-8
 unfolding verdict
 returns-8 c =
-    let p = pack-of (c .before .before .before .before .before .before .before .before .before .before .before .before .before .before .before .before .before .before .before) in
-    let e = keys-length p in
-    rw (marked-yes (c .before .before .before .before .before .before .before .before .before .before .before .before .before .before .before .before .before .before .before), ordered-yes (c .before .before .before .before .before .before .before .before .before .before .before .before .before .before .before .before .before), keys-yes (c .before .before .before .before .before .before .before .before .before .before .before .before .before .before), balances-yes (c .before .before .before .before .before .before .before .before .before .before .before .before), outers-yes (c .before .before .before .before .before .before .before) .0, groups-yes (c .before .before) .0, pools-yes (c .before), lt-ltb 256 (length (viewOf p .keys)) (omega (arith, ap length (c .before .before .before .before .before .before .before .before .before .before .before .before .before .before .before .before .before .section .ensures), c .if6 .taken)))
+    let d = c .before .before in
+    let w = early (section3-at (section4-at d)) in
+    let p = pack-5 d in
+    let many = lt-ltb 256 (length (viewOf p .keys)) (omega (arith, keys-length p, keys-at d, c .if6 .taken)) in
+    rw (w .0, w .1, w .2, w .3, outers-yes (section4-at d) .0, groups-yes d .0, pools-yes (c .before), many)
 
 returns-9 : tie.Need-returns-9
 unfolding verdict
 returns-9 c =
-    let p = pack-of (c .before .before .before .before .before .before .before .before .before .before .before .before .before .before .before .before .before .before .before .before) in
-    let o = outers-yes (c .before .before .before .before .before .before .before .before) .1 in
-    let i = groups-yes (c .before .before .before) .1 in
-    let t = invocations-length p in
-    rw (marked-yes (c .before .before .before .before .before .before .before .before .before .before .before .before .before .before .before .before .before .before .before .before), ordered-yes (c .before .before .before .before .before .before .before .before .before .before .before .before .before .before .before .before .before .before), keys-yes (c .before .before .before .before .before .before .before .before .before .before .before .before .before .before .before), balances-yes (c .before .before .before .before .before .before .before .before .before .before .before .before .before), outers-yes (c .before .before .before .before .before .before .before .before) .0, groups-yes (c .before .before .before) .0, pools-yes (c .before .before), few-keys (c .before), lt-ltb 1024 (length (flatten (viewOf p))) (omega arith))
+    let k = c .before in
+    let d = k .before .before in
+    let w = early (section3-at (section4-at d)) in
+    let o = outers-yes (section4-at d) in
+    let i = groups-yes d in
+    let p = pack-5 d in
+    let t = lt-ltb 1024 (length (flatten (viewOf p))) (omega (arith, invocations-length p, o .1, i .1)) in
+    rw (w .0, w .1, w .2, w .3, o .0, i .0, pools-yes (k .before), few-keys k, t)
 
 returns-10 : tie.Need-returns-10
 unfolding verdict
 returns-10 c =
-    let p = pack-of (c .before .before .before .before .before .before .before .before .before .before .before .before .before .before .before .before .before .before .before .before .before) in
-    let o = outers-yes (c .before .before .before .before .before .before .before .before .before) .1 in
-    let i = groups-yes (c .before .before .before .before) .1 in
-    let t = invocations-length p in
-    rw (marked-yes (c .before .before .before .before .before .before .before .before .before .before .before .before .before .before .before .before .before .before .before .before .before), ordered-yes (c .before .before .before .before .before .before .before .before .before .before .before .before .before .before .before .before .before .before .before), keys-yes (c .before .before .before .before .before .before .before .before .before .before .before .before .before .before .before .before), balances-yes (c .before .before .before .before .before .before .before .before .before .before .before .before .before .before), outers-yes (c .before .before .before .before .before .before .before .before .before) .0, groups-yes (c .before .before .before .before) .0, pools-yes (c .before .before .before), few-keys (c .before .before), lt-ltb 1024 (length (flatten (viewOf p))) (omega arith))
+    let k = c .before .before in
+    let d = k .before .before in
+    let w = early (section3-at (section4-at d)) in
+    let o = outers-yes (section4-at d) in
+    let i = groups-yes d in
+    let p = pack-5 d in
+    let t = lt-ltb 1024 (length (flatten (viewOf p))) (omega (arith, invocations-length p, o .1, i .1)) in
+    rw (w .0, w .1, w .2, w .3, o .0, i .0, pools-yes (k .before), few-keys k, t)
 
 returns-11 : tie.Need-returns-11
 unfolding verdict
 returns-11 c =
-    let p = pack-of (c .before .before .before .before .before .before .before .before .before .before .before .before .before .before .before .before .before .before .before .before .before) in
-    let o = outers-yes (c .before .before .before .before .before .before .before .before .before) .1 in
-    let i = groups-yes (c .before .before .before .before) .1 in
-    let t = invocations-length p in
-    rw (marked-yes (c .before .before .before .before .before .before .before .before .before .before .before .before .before .before .before .before .before .before .before .before .before), ordered-yes (c .before .before .before .before .before .before .before .before .before .before .before .before .before .before .before .before .before .before .before), keys-yes (c .before .before .before .before .before .before .before .before .before .before .before .before .before .before .before .before), balances-yes (c .before .before .before .before .before .before .before .before .before .before .before .before .before .before), outers-yes (c .before .before .before .before .before .before .before .before .before) .0, groups-yes (c .before .before .before .before) .0, pools-yes (c .before .before .before), few-keys (c .before .before), le-ltb 1024 (length (flatten (viewOf p))) (omega arith))
+    let k = c .before .before in
+    let d = k .before .before in
+    let w = early (section3-at (section4-at d)) in
+    let o = outers-yes (section4-at d) in
+    let i = groups-yes d in
+    let p = pack-5 d in
+    let t = le-ltb 1024 (length (flatten (viewOf p))) (omega (arith, invocations-length p, o .1, i .1)) in
+    rw (w .0, w .1, w .2, w .3, o .0, i .0, pools-yes (k .before), few-keys k, t)
 
 pub judge-spec : {M : Type 1} → statement M
 judge-spec =

@@ -1,3 +1,5 @@
+-- The differences are at most as many as the answers, which are fewer than 2 ^ 32, and no call changes the length of a table.
+-- Assumes nothing.
 use borrow.Author.Needs.{needs}
 use Prim.Native.Nat.{_≤_, _-_}
 use mathlib.Core.Path.{_≡_, refl, _∙_}
@@ -49,9 +51,10 @@ loop-less c = omega arith
 
 loop-again : tie.Need-loop-again Inv-loop μ-loop
 loop-again c =
-    let n = c .before .before .before .before .before .before .before .before .before .before .before .before .before .before .next in
-    let l = c .before .before .before .before .before .before .before .before .before .before .before .before .before .before .before .before .before .before .before .before .before .before .before .before .before .before .loop in
-    (omega arith, omega arith, n .kept .1 .0 ∙ l .inv .2, n .kept .1 .1 .0 ∙ l .inv .3, n .kept .1 .1 .1 .0 ∙ l .inv .4, n .kept .1 .1 .1 .1 .0 ∙ l .inv .5, n .kept .1 .1 .1 .1 .1 .0 ∙ l .inv .6, n .kept .1 .1 .1 .1 .1 .1 .0 ∙ l .inv .7)
+    let n = c .before .before .before .before .before .before .before .before .before .before .before .before .before .before in
+    let l = n .before .before .before .before .before .before .before .before .before .before .before .before .loop in
+    let k = n .next .kept in
+    (omega arith, omega arith, k .1 .0 ∙ l .inv .2, k .1 .1 .0 ∙ l .inv .3, k .1 .1 .1 .0 ∙ l .inv .4, k .1 .1 .1 .1 .0 ∙ l .inv .5, k .1 .1 .1 .1 .1 .0 ∙ l .inv .6, k .1 .1 .1 .1 .1 .1 .0 ∙ l .inv .7)
 
 number-requires : tie.Need-number-requires Inv-loop μ-loop
 number-requires c κs = tt

@@ -1,3 +1,5 @@
+-- Nothing is promised but that it ends: one byte less is left with each turn.
+-- Assumes nothing.
 use borrow.Author.Needs.{needs}
 use Prim.Native.Nat.{_≤_, _-_}
 use native.Mathlib.Omega.{arith}

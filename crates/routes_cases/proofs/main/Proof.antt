@@ -1,3 +1,5 @@
+-- One argument less is left with each turn.
+-- Assumes nothing.
 use Prim.Native.Nat.{_-_}
 use native.Mathlib.Omega.{arith}
 use Rattle.routes_cases.proofs.main.Statement.{statement}

@@ -1,3 +1,5 @@
+-- From invocation i on the arrays hold ends and inside bits, and `total` their tests; each step adds one invocation in front.
+-- Assumes nothing.
 use Rattle.subtrees.proofs.Filling.{Filling, filling-none, filling-more, filling-all}
 use Rattle.subtrees.proofs.Arrays.{positions-length}
 use Rattle.subtrees.specs.Subtrees.{positions}
@@ -15,44 +17,35 @@ Inv-loop n outer inner height own ends₀ inside₀ total₀ i₀ ends inside to
 abbrev μ-loop : tie.MeasureT-loop
 μ-loop n outer inner height own ends₀ inside₀ total₀ i₀ ends inside total i = i
 
--- src/lib.rt:109:5
 loop-holds : tie.Need-loop-holds Inv-loop μ-loop
 loop-holds c =
     let a = c .before .before .args in
     let ps = positions (a .outer .now) (a .inner .now) (a .height .now) (a .n) in
     (omega arith, refl, refl, omega arith, filling-none ps (a .own .now) (a .n) (positions-length (a .outer .now) (a .inner .now) (a .height .now) (a .n)))
 
--- src/lib.rt:110:9
 sub-i : tie.Need-sub-i Inv-loop μ-loop
 sub-i c = omega arith
 
--- src/lib.rt:111:13
 step-requires : tie.Need-step-requires Inv-loop μ-loop
 step-requires c κs =
     let l = c .before .before .before .loop in
     (omega arith, λ m p q. l .inv .4 .known m (omega arith) q)
 
--- src/lib.rt:115:9
 mul-ends : tie.Need-mul-ends Inv-loop μ-loop
 mul-ends c = omega arith
 
--- src/lib.rt:115:9
 element-write-ends : tie.Need-element-write-ends Inv-loop μ-loop
 element-write-ends c = omega arith
 
--- src/lib.rt:116:9
 element-write-inside : tie.Need-element-write-inside Inv-loop μ-loop
 element-write-inside c = omega arith
 
--- src/lib.rt:117:9
 add-total : tie.Need-add-total Inv-loop μ-loop
 add-total c = omega (arith, c .step .ensures .small)
 
--- src/lib.rt:109:5
 loop-less : tie.Need-loop-less Inv-loop μ-loop
 loop-less c = omega arith
 
--- src/lib.rt:109:5
 loop-again : tie.Need-loop-again Inv-loop μ-loop
 loop-again c =
     let l = c .before .before .before .before .loop in
@@ -68,7 +61,6 @@ loop-again c =
           (omega arith) (omega arith) (omega arith) (omega arith) (c .step .ensures) (l .inv .4),
     )
 
--- src/lib.rt:101:1
 returns : tie.Need-returns Inv-loop μ-loop
 returns c =
     let l = c .before .loop in

@@ -1,3 +1,5 @@
+-- Each of the two bits is set in one byte or in the other, and they are added by their weight.
+-- Assumes nothing.
 use Rattle.subtrees.proofs.Numbers.{pick-le, joined-parts}
 use Rattle.subtrees.specs.Subtrees.{odd}
 use mathlib.Core.Bool.{_||_}
@@ -7,27 +9,22 @@ use borrow.Author.Needs.{needs}
 use Rattle.subtrees.proofs.joined.Statement.{statement}
 use Rattle.subtrees.proofs.joined.Tie as tie
 
--- src/lib.rt:53:5
 either-requires : tie.Need-either-requires
 either-requires c κs = search needs
 
--- src/lib.rt:53:20
 either-requires-2 : tie.Need-either-requires-2
 either-requires-2 c κs = search needs
 
--- src/lib.rt:53:20
 mul-result : tie.Need-mul-result
 mul-result c =
     let a = c .before .before .args in
     omega (arith, c .either2 .ensures, pick-le (odd (a .a / 2) || odd (a .b / 2)))
 
--- src/lib.rt:53:5
 add-result : tie.Need-add-result
 add-result c =
     let a = c .before .before .args in
     omega (arith, c .before .either .ensures, c .either2 .ensures, pick-le (odd (a .a) || odd (a .b)), pick-le (odd (a .a / 2) || odd (a .b / 2)))
 
--- src/lib.rt:50:1
 returns : tie.Need-returns
 returns c = rw (c .before .either .ensures, c .either2 .ensures) (joined-parts (c .before .before .args .a) (c .before .before .args .b))
 

@@ -1,3 +1,5 @@
+-- Every member before e is passed, alone or in the block of one that was tested, and its bits are counted in; a test that fails, or n, is the end.
+-- Assumes nothing.
 use Rattle.subtrees.proofs.Walk.{Walk, walk-first, walk-jump, walk-stop, walk-out}
 use Rattle.subtrees.proofs.Arrays.{positions-length, within-at, known-end}
 use Rattle.subtrees.specs.Subtrees.{positions, within, joined, endOf, insideOf}
@@ -38,27 +40,21 @@ reach : (s : tie.Start Inv-loop μ-loop) (e : ℕ) → s .args .i + 1 ≤ e → 
 reach s e =
     known-end (s .args .outer .now) (s .args .inner .now) (s .args .height .now) (s .args .n) (s .args .own .now) (s .args .ends .now) (s .args .inside .now) (s .args .i + 1) e (s .pre .1)
 
--- src/lib.rt:78:17
 add-e : tie.Need-add-e Inv-loop μ-loop
 add-e c = omega arith
 
--- src/lib.rt:81:5
 loop-holds : tie.Need-loop-holds Inv-loop μ-loop
 loop-holds c = (omega arith, omega arith, omega arith, walk-first _ _ _)
 
--- src/lib.rt:82:9
 add-tests : tie.Need-add-tests Inv-loop μ-loop
 add-tests c = omega arith
 
--- src/lib.rt:83:13
 within-requires : tie.Need-within-requires Inv-loop μ-loop
 within-requires c κs = (omega arith, omega arith)
 
--- src/lib.rt:85:22
 cast-t14 : tie.Need-cast-t14 Inv-loop μ-loop
 cast-t14 c = omega arith
 
--- src/lib.rt:84:13
 returns : tie.Need-returns Inv-loop μ-loop
 returns c =
     let l = c .before .before .before .loop in
@@ -66,37 +62,30 @@ returns c =
     let no = held s (l .e) (c .before .within .result) (omega arith) (c .before .within .ensures) ∙ not-true _ (c .if1 .taken) in
     walk-stop (list s) (s .args .own .now) (s .args .i) (l .e) (l .bits) (l .tests) (omega (arith, count s)) (omega arith) no (l .inv .3)
 
--- src/lib.rt:90:36
 element-copy-out-joined : tie.Need-element-copy-out-joined Inv-loop μ-loop
 element-copy-out-joined c = omega arith
 
--- src/lib.rt:90:44
 element-copy-out-joined-2 : tie.Need-element-copy-out-joined-2 Inv-loop μ-loop
 element-copy-out-joined-2 c = omega arith
 
--- src/lib.rt:90:29
 joined-requires : tie.Need-joined-requires Inv-loop μ-loop
 joined-requires c κs = tt
 
--- src/lib.rt:90:9
 joined-requires-2 : tie.Need-joined-requires-2 Inv-loop μ-loop
 joined-requires-2 c κs = tt
 
--- src/lib.rt:91:9
 end-at-requires : tie.Need-end-at-requires Inv-loop μ-loop
 end-at-requires c κs =
     let l = c .before .before .before .before .before .before .before .loop in
     let k = reach (c .before .before .before .before .before .before .before .before) (l .e) (omega arith) (omega arith) in
     (omega arith, omega arith)
 
--- src/lib.rt:81:5
 loop-less : tie.Need-loop-less Inv-loop μ-loop
 loop-less c =
     let l = c .before .before .before .before .before .before .before .before .loop in
     let k = reach (c .before .before .before .before .before .before .before .before .before) (l .e) (omega arith) (omega arith) in
     omega (arith, c .end-at .ensures)
 
--- src/lib.rt:81:5
 loop-again : tie.Need-loop-again Inv-loop μ-loop
 loop-again c =
     let l = c .before .before .before .before .before .before .before .before .loop in
@@ -112,11 +101,9 @@ loop-again c =
     c .before .joined2 .ensures ∙ ap (joined (l .bits)) (c .before .before .joined .ensures ∙ ap (joined (getD own (l .e) 0)) (r .1)) in
     (omega arith, omega arith, omega arith, rw (to, got) w)
 
--- src/lib.rt:94:14
 cast-t22 : tie.Need-cast-t22 Inv-loop μ-loop
 cast-t22 c = omega arith
 
--- src/lib.rt:73:1
 returns-2 : tie.Need-returns-2 Inv-loop μ-loop
 returns-2 c =
     let l = c .before .loop in

@@ -1,20 +1,14 @@
-use borrow.Author.Needs.{needs}
+-- The protocol's own leg, by `by_program`, with its places turned into index bytes, by `indexed`.
+-- Assumes nothing.
 use Rattle.swaps.proofs.leg.Statement.{statement}
 use Rattle.swaps.proofs.leg.Tie as tie
-use Rattle.swaps.proofs.leg.Reads as reads
-use Rattle.swaps.proofs.leg.Lts as lts
-use Rattle.swaps.proofs.by_program.Reads as by-program-reads
-use Rattle.swaps.proofs.indexed.Reads as indexed-reads
 
--- src/lib.rt:121:23
 by-program-requires : tie.Need-by-program-requires
-by-program-requires c κs = search needs
+by-program-requires c κs = tt
 
--- src/lib.rt:121:5
 indexed-requires : tie.Need-indexed-requires
-indexed-requires c κs = search needs
+indexed-requires c κs = tt
 
--- src/lib.rt:118:1
 returns : tie.Need-returns
 returns c = rw (c .indexed .ensures, c .before .by-program .ensures)
 

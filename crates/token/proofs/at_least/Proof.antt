@@ -1,14 +1,12 @@
+-- The two tests are the definition's.
+-- Assumes nothing.
 use borrow.Author.Tests.{le-leb, lt-leb}
 use Rattle.token.proofs.at_least.Statement.{statement}
 use Rattle.token.proofs.at_least.Tie as tie
-use Rattle.token.proofs.at_least.Reads as reads
-use Rattle.token.proofs.at_least.Lts as lts
 
--- src/lib.rt:41:1
 returns : tie.Need-returns
 returns c = simp (le-leb _ _ (c .if1 .taken))
 
--- src/lib.rt:41:1
 returns-2 : tie.Need-returns-2
 returns-2 c = simp (lt-leb _ _ (c .if1 .left))
 

@@ -1,14 +1,12 @@
+-- The two tests are the definition's.
+-- Assumes nothing.
 use borrow.Author.Tests.{eq-eqb, ne-eqb}
 use Rattle.token.proofs.exactly.Statement.{statement}
 use Rattle.token.proofs.exactly.Tie as tie
-use Rattle.token.proofs.exactly.Reads as reads
-use Rattle.token.proofs.exactly.Lts as lts
 
--- src/lib.rt:47:1
 returns : tie.Need-returns
 returns c = simp (eq-eqb _ _ (c .if1 .taken))
 
--- src/lib.rt:47:1
 returns-2 : tie.Need-returns-2
 returns-2 c = simp (ne-eqb _ _ (c .if1 .left))
 

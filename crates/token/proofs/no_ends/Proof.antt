@@ -1,24 +1,19 @@
+-- The two tests are the definition's.
+-- Assumes nothing.
 use mathlib.Core.Path.{sym, _∙_}
 use borrow.Author.Needs.{needs}
 use Rattle.token.proofs.no_ends.Statement.{statement}
 use Rattle.token.proofs.no_ends.Tie as tie
-use Rattle.token.proofs.no_ends.Reads as reads
-use Rattle.token.proofs.no_ends.Lts as lts
-use Rattle.token.proofs.missing.Reads as missing-reads
 
--- src/lib.rt:144:5
 missing-requires : tie.Need-missing-requires
 missing-requires c κs = search needs
 
--- src/lib.rt:144:30
 missing-requires-2 : tie.Need-missing-requires-2
 missing-requires-2 c κs = search needs
 
--- src/lib.rt:141:1
 returns : tie.Need-returns
 returns c = rw (c .if1 .taken, sym (c .before .missing .ensures) ∙ c .if1 .taken)
 
--- src/lib.rt:141:1
 returns-2 : tie.Need-returns-2
 returns-2 c = rw (c .missing2 .ensures, sym (c .before .before .missing .ensures) ∙ c .before .if1 .left)
 

@@ -1,3 +1,5 @@
+-- The arm names the case, and a case without an arm has another number.
+-- Assumes nothing.
 use Rattle.token.proofs.Numbers.{number-not, others}
 use Rattle.token.specs.Programs.{isSpl}
 use borrow.Author.Tests.{ne-eqb}
@@ -6,19 +8,14 @@ use mathlib.Core.Path.{sym}
 use borrow.Author.Needs.{needs}
 use Rattle.token.proofs.spl_token.Statement.{statement}
 use Rattle.token.proofs.spl_token.Tie as tie
-use Rattle.token.proofs.spl_token.Reads as reads
-use Rattle.token.proofs.spl_token.Lts as lts
 
--- src/lib.rt:127:25
 enum-told : tie.Need-enum-told
 enum-told c = search needs
 
--- src/lib.rt:123:1
 returns : tie.Need-returns
 unfolding isSpl
 returns c = rw (c .enum-told .given .1)
 
--- src/lib.rt:123:1
 returns-2 : tie.Need-returns-2
 unfolding isSpl
 returns-2 c = sym (ne-eqb _ _ (number-not (c .before .args .id) (1 ∷ others) 0 (c .match .keys2) tt))

@@ -1,20 +1,17 @@
+-- A byte within the slice is read; past its end the definition has 0.
+-- Assumes nothing.
 use mathlib.Core.Path.{sym}
 use lib.ListN.{List·getD-eq-default}
 use borrow.Author.Needs.{needs}
 use Rattle.wire.proofs.byte.Statement.{statement}
 use Rattle.wire.proofs.byte.Tie as tie
-use Rattle.wire.proofs.byte.Reads as reads
-use Rattle.wire.proofs.byte.Lts as lts
 
--- src/lib.rt:12:23
 shared-slice-read-result : tie.Need-shared-slice-read-result
 shared-slice-read-result c = search needs
 
--- src/lib.rt:9:1
 returns : tie.Need-returns
 returns c = search needs
 
--- src/lib.rt:9:1
 returns-2 : tie.Need-returns-2
 returns-2 c = sym (List·getD-eq-default (c .before .args .s .now) 0 (c .if1 .left))
 

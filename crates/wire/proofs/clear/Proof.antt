@@ -1,3 +1,5 @@
+-- The bytes before i are 0 and the rest are as they were, so that at the end all are 0.
+-- Assumes nothing.
 use native.Mathlib.Omega.{arith}
 use borrow.Author.Fill.{fill-none, fill-more}
 use mathlib.Core.Path.{_≡_, refl, _∙_}
@@ -6,8 +8,6 @@ use Prim.Native.Nat.{_-_, _≤_}
 use lib.ListN.{length, drop, length-set, replicate, drop-of-length-le}
 use Rattle.wire.proofs.clear.Statement.{statement}
 use Rattle.wire.proofs.clear.Tie as tie
-use Rattle.wire.proofs.clear.Reads as reads
-use Rattle.wire.proofs.clear.Lts as lts
 
 abbrev Inv-loop : tie.InvT-loop
 Inv-loop d₀ i₀ d i = (i ≤ length d₀) × (length d ≡ length d₀) × (d ≡ replicate i 0 ++ drop i d₀)
@@ -15,34 +15,27 @@ Inv-loop d₀ i₀ d i = (i ≤ length d₀) × (length d ≡ length d₀) × (d
 abbrev μ-loop : tie.MeasureT-loop
 μ-loop d₀ i₀ d i = length d - i
 
--- src/lib.rt:105:5
 loop-holds : tie.Need-loop-holds Inv-loop μ-loop
 loop-holds c = (omega arith, refl, fill-none _ 0)
 
--- src/lib.rt:106:9
 slice-write-d : tie.Need-slice-write-d Inv-loop μ-loop
 slice-write-d c = omega arith
 
--- src/lib.rt:107:9
 add-i : tie.Need-add-i Inv-loop μ-loop
 add-i c = omega arith
 
--- src/lib.rt:105:5
 loop-less : tie.Need-loop-less Inv-loop μ-loop
 loop-less c = simp length-set (omega arith)
 
--- src/lib.rt:105:5
 loop-again : tie.Need-loop-again Inv-loop μ-loop
 loop-again c =
     let l = c .before .loop in
     let d₀ = c .before .before .args .d .now in
     (omega arith, simp length-set (l .inv .1), rw (l .inv .2) (fill-more (l .i) 0 d₀ (omega arith)))
 
--- src/lib.rt:101:1
 same-length : tie.Need-same-length Inv-loop μ-loop
 same-length c = c .before .loop .inv .1
 
--- src/lib.rt:101:1
 returns : tie.Need-returns Inv-loop μ-loop
 returns c =
     let l = c .before .loop in

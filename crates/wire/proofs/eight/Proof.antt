@@ -1,41 +1,32 @@
+-- Two numbers of four bytes are one of eight, the second by its weight.
+-- Assumes nothing.
 use mathlib.Core.Path.{sym}
 use Rattle.wire.proofs.Laws.{le-split, bytes-join}
 use borrow.Author.Needs.{needs}
 use Rattle.wire.proofs.eight.Statement.{statement}
 use Rattle.wire.proofs.eight.Tie as tie
-use Rattle.wire.proofs.eight.Reads as reads
-use Rattle.wire.proofs.eight.Lts as lts
-use Rattle.wire.proofs.four.Reads as four-reads
 
--- src/lib.rt:74:5
 four-requires : tie.Need-four-requires
 four-requires c κs = search needs
 
--- src/lib.rt:74:5
 cast-result : tie.Need-cast-result
 cast-result c = search needs
 
--- src/lib.rt:74:33
 add-four : tie.Need-add-four
 add-four c = search needs
 
--- src/lib.rt:74:25
 four-requires-2 : tie.Need-four-requires-2
 four-requires-2 c κs = search needs
 
--- src/lib.rt:74:25
 cast-result-2 : tie.Need-cast-result-2
 cast-result-2 c = search needs
 
--- src/lib.rt:74:25
 mul-result : tie.Need-mul-result
 mul-result c = search needs
 
--- src/lib.rt:74:5
 add-result : tie.Need-add-result
 add-result c = search needs
 
--- src/lib.rt:70:1
 returns : tie.Need-returns
 returns c =
     let s = c .before .before .before .args .s .now in

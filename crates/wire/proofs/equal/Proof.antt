@@ -11,10 +11,6 @@ use Rattle.wire.proofs.Same.{same-ne, same-not-long, same-step}
 use Rattle.wire.proofs.Laws.{le-same}
 use Rattle.wire.proofs.equal.Statement.{statement}
 use Rattle.wire.proofs.equal.Tie as tie
-use Rattle.wire.proofs.equal.Reads as reads
-use Rattle.wire.proofs.equal.Lts as lts
-use Rattle.wire.proofs.eight.Reads as eight-reads
-use Rattle.wire.proofs.equal_rest.Reads as equal-rest-reads
 
 abbrev Inv-loop : tie.InvT-loop
 Inv-loop a b i₀ i = (i ≤ length a) × (same (drop i a) (drop i b) ≡ same a b)
@@ -22,27 +18,21 @@ Inv-loop a b i₀ i = (i ≤ length a) × (same (drop i a) (drop i b) ≡ same a
 abbrev μ-loop : tie.MeasureT-loop
 μ-loop a b i₀ i = length a - i
 
--- src/lib.rt:234:9
 returns : tie.Need-returns Inv-loop μ-loop
 returns c = sym (same-not-long (c .before .before .before .args .a .now) (c .before .before .before .args .b .now) (c .if1 .taken))
 
--- src/lib.rt:237:5
 loop-holds : tie.Need-loop-holds Inv-loop μ-loop
 loop-holds c = (omega arith, refl)
 
--- src/lib.rt:237:16
 sub-loop : tie.Need-sub-loop Inv-loop μ-loop
 sub-loop c = omega arith
 
--- src/lib.rt:238:12
 eight-requires : tie.Need-eight-requires Inv-loop μ-loop
 eight-requires c κs = omega arith
 
--- src/lib.rt:238:27
 eight-requires-2 : tie.Need-eight-requires-2 Inv-loop μ-loop
 eight-requires-2 c κs = omega arith
 
--- src/lib.rt:239:13
 returns-2 : tie.Need-returns-2 Inv-loop μ-loop
 returns-2 c =
     let l = c .before .before .before .before .loop in
@@ -50,15 +40,12 @@ returns-2 c =
     let eb = c .before .eight2 .ensures in
     sym (same-ne (λ e. c .if2 .taken (ea .0 ∙ (ap (λ (s : List ℕ). le 8 s (l .i)) e ∙ sym (eb .0)))))
 
--- src/lib.rt:241:9
 add-i : tie.Need-add-i Inv-loop μ-loop
 add-i c = omega arith
 
--- src/lib.rt:237:5
 loop-less : tie.Need-loop-less Inv-loop μ-loop
 loop-less c = omega arith
 
--- src/lib.rt:237:5
 loop-again : tie.Need-loop-again Inv-loop μ-loop
 loop-again c =
     let a = c .before .before .before .before .before .before .before .before .args .a .now in
@@ -69,11 +56,9 @@ loop-again c =
     let next = le-same 8 a b (l .i) (ea .1) (eb .1) (omega arith) (omega arith) (sym (ea .0) ∙ (c .if2 .left ∙ eb .0)) in
     (omega arith, same-step a b (l .i) 8 next ∙ l .inv .1)
 
--- src/lib.rt:243:5
 equal-rest-requires : tie.Need-equal-rest-requires Inv-loop μ-loop
 equal-rest-requires c κs = c .before .before .if1 .left
 
--- src/lib.rt:230:1
 returns-3 : tie.Need-returns-3 Inv-loop μ-loop
 returns-3 c = c .equal-rest .ensures ∙ c .before .before .loop .inv .1
 

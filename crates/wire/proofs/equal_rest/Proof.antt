@@ -11,8 +11,6 @@ use Rattle.wire.specs.Same.{same}
 use Rattle.wire.proofs.Same.{same-eq, same-not-at, same-step}
 use Rattle.wire.proofs.equal_rest.Statement.{statement}
 use Rattle.wire.proofs.equal_rest.Tie as tie
-use Rattle.wire.proofs.equal_rest.Reads as reads
-use Rattle.wire.proofs.equal_rest.Lts as lts
 
 abbrev Inv-loop : tie.InvT-loop
 Inv-loop a b from i₀ i = same (drop i a) (drop i b) ≡ same (drop from a) (drop from b)
@@ -20,19 +18,15 @@ Inv-loop a b from i₀ i = same (drop i a) (drop i b) ≡ same (drop from a) (dr
 abbrev μ-loop : tie.MeasureT-loop
 μ-loop a b from i₀ i = length a - i
 
--- src/lib.rt:220:5
 loop-holds : tie.Need-loop-holds Inv-loop μ-loop
 loop-holds c = refl
 
--- src/lib.rt:221:12
 shared-slice-read-if1 : tie.Need-shared-slice-read-if1 Inv-loop μ-loop
 shared-slice-read-if1 c = omega arith
 
--- src/lib.rt:221:20
 shared-slice-read-if1-2 : tie.Need-shared-slice-read-if1-2 Inv-loop μ-loop
 shared-slice-read-if1-2 c = omega arith
 
--- src/lib.rt:222:13
 returns : tie.Need-returns Inv-loop μ-loop
 returns c =
     let a = c .before .before .before .before .before .args .a .now in
@@ -41,15 +35,12 @@ returns c =
     let differ : same (drop (l .i) a) (drop (l .i) b) ≡ false = rw (drop-cons a (l .i) 0 (omega arith), drop-cons b (l .i) 0 (omega arith)) (same-not-at (getD a (l .i) 0 ∷ drop (suc (l .i)) a) (getD b (l .i) 0 ∷ drop (suc (l .i)) b) 0 (c .if1 .taken)) in
     sym differ ∙ l .inv
 
--- src/lib.rt:224:9
 add-i : tie.Need-add-i Inv-loop μ-loop
 add-i c = omega arith
 
--- src/lib.rt:220:5
 loop-less : tie.Need-loop-less Inv-loop μ-loop
 loop-less c = omega arith
 
--- src/lib.rt:220:5
 loop-again : tie.Need-loop-again Inv-loop μ-loop
 loop-again c =
     let a = c .before .before .before .before .before .args .a .now in
@@ -57,7 +48,6 @@ loop-again c =
     let l = c .before .before .before .before .loop in
     same-step a b (l .i) 1 (rw (drop-cons a (l .i) 0 (omega arith), drop-cons b (l .i) 0 (omega arith)) (ap (λ (x : ℕ). x ∷ []) (c .if1 .left))) ∙ l .inv
 
--- src/lib.rt:215:1
 returns-2 : tie.Need-returns-2 Inv-loop μ-loop
 returns-2 c =
     let a = c .before .before .args .a .now in

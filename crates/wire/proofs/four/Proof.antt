@@ -1,41 +1,32 @@
+-- Two numbers of two bytes are one of four, the second by its weight.
+-- Assumes nothing.
 use mathlib.Core.Path.{sym}
 use Rattle.wire.proofs.Laws.{le-split, bytes-join}
 use borrow.Author.Needs.{needs}
 use Rattle.wire.proofs.four.Statement.{statement}
 use Rattle.wire.proofs.four.Tie as tie
-use Rattle.wire.proofs.four.Reads as reads
-use Rattle.wire.proofs.four.Lts as lts
-use Rattle.wire.proofs.two.Reads as two-reads
 
--- src/lib.rt:54:5
 two-requires : tie.Need-two-requires
 two-requires c κs = search needs
 
--- src/lib.rt:54:5
 cast-result : tie.Need-cast-result
 cast-result c = search needs
 
--- src/lib.rt:54:31
 add-two : tie.Need-add-two
 add-two c = search needs
 
--- src/lib.rt:54:24
 two-requires-2 : tie.Need-two-requires-2
 two-requires-2 c κs = search needs
 
--- src/lib.rt:54:24
 cast-result-2 : tie.Need-cast-result-2
 cast-result-2 c = search needs
 
--- src/lib.rt:54:24
 mul-result : tie.Need-mul-result
 mul-result c = search needs
 
--- src/lib.rt:54:5
 add-result : tie.Need-add-result
 add-result c = search needs
 
--- src/lib.rt:50:1
 returns : tie.Need-returns
 returns c =
     let s = c .before .before .before .args .s .now in

@@ -10,11 +10,6 @@ use Rattle.wire.proofs.Sets.{sets-rest}
 use Rattle.wire.proofs.Laws.{le-back}
 use Rattle.wire.proofs.lay.Statement.{statement}
 use Rattle.wire.proofs.lay.Tie as tie
-use Rattle.wire.proofs.lay.Reads as reads
-use Rattle.wire.proofs.lay.Lts as lts
-use Rattle.wire.proofs.eight.Reads as eight-reads
-use Rattle.wire.proofs.lay_rest.Reads as lay-rest-reads
-use Rattle.wire.proofs.put_eight.Reads as put-eight-reads
 
 abbrev Inv-loop : tie.InvT-loop
 Inv-loop d₀ at s i₀ d i = (i ≤ length s) × (length d ≡ length d₀) × (sets d (at + i) (drop i s) ≡ sets d₀ at s)
@@ -22,35 +17,27 @@ Inv-loop d₀ at s i₀ d i = (i ≤ length s) × (length d ≡ length d₀) × 
 abbrev μ-loop : tie.MeasureT-loop
 μ-loop d₀ at s i₀ d i = length s - i
 
--- src/lib.rt:181:5
 loop-holds : tie.Need-loop-holds Inv-loop μ-loop
 loop-holds c = (omega arith, refl, rw add-zero)
 
--- src/lib.rt:181:16
 sub-loop : tie.Need-sub-loop Inv-loop μ-loop
 sub-loop c = omega arith
 
--- src/lib.rt:182:22
 add-put-eight : tie.Need-add-put-eight Inv-loop μ-loop
 add-put-eight c = omega arith
 
--- src/lib.rt:182:30
 eight-requires : tie.Need-eight-requires Inv-loop μ-loop
 eight-requires c κs = omega arith
 
--- src/lib.rt:182:9
 put-eight-requires : tie.Need-put-eight-requires Inv-loop μ-loop
 put-eight-requires c κs = omega arith
 
--- src/lib.rt:183:9
 add-i : tie.Need-add-i Inv-loop μ-loop
 add-i c = omega arith
 
--- src/lib.rt:181:5
 loop-less : tie.Need-loop-less Inv-loop μ-loop
 loop-less c = omega arith
 
--- src/lib.rt:181:5
 loop-again : tie.Need-loop-again Inv-loop μ-loop
 loop-again c =
     let a = c .before .before .before .before .before .before .before .before .before .args in
@@ -60,15 +47,12 @@ loop-again c =
     let p = c .before .before .put-eight .ensures in
     (omega arith, rw (p, length-sets) (l .inv .1), rw (p, e .0, le-back 8 s (l .i) (e .1) (omega arith), ← drop-drop 8 (l .i) s, ← add-assoc (a .at) (l .i) 8) (sets-rest (l .d) (a .at + l .i) (drop (l .i) s) 8 (rw length-drop (omega arith)) ∙ l .inv .2))
 
--- src/lib.rt:185:5
 lay-rest-requires : tie.Need-lay-rest-requires Inv-loop μ-loop
 lay-rest-requires c κs = omega arith
 
--- src/lib.rt:176:1
 same-length : tie.Need-same-length Inv-loop μ-loop
 same-length c = rw (c .before .before .lay-rest .ensures, length-sets) (c .before .before .before .before .before .loop .inv .1)
 
--- src/lib.rt:176:1
 returns : tie.Need-returns Inv-loop μ-loop
 returns c = c .before .before .lay-rest .ensures ∙ c .before .before .before .before .before .loop .inv .2
 

@@ -9,8 +9,6 @@ use lib.ListN.{length, drop, length-set, drop-of-length-le}
 use lib.Seq.{sets, drop-cons}
 use Rattle.wire.proofs.lay_rest.Statement.{statement}
 use Rattle.wire.proofs.lay_rest.Tie as tie
-use Rattle.wire.proofs.lay_rest.Reads as reads
-use Rattle.wire.proofs.lay_rest.Lts as lts
 
 abbrev Inv-loop : tie.InvT-loop
 Inv-loop d₀ at s from i₀ d i = (length d ≡ length d₀) × (sets d (at + i) (drop i s) ≡ sets d₀ (at + from) (drop from s))
@@ -18,42 +16,33 @@ Inv-loop d₀ at s from i₀ d i = (length d ≡ length d₀) × (sets d (at + i
 abbrev μ-loop : tie.MeasureT-loop
 μ-loop d₀ at s from i₀ d i = length s - i
 
--- src/lib.rt:169:5
 loop-holds : tie.Need-loop-holds Inv-loop μ-loop
 loop-holds c = (refl, refl)
 
--- src/lib.rt:170:21
 shared-slice-read-d : tie.Need-shared-slice-read-d Inv-loop μ-loop
 shared-slice-read-d c = omega arith
 
--- src/lib.rt:170:11
 add-d : tie.Need-add-d Inv-loop μ-loop
 add-d c = omega arith
 
--- src/lib.rt:170:9
 slice-write-d : tie.Need-slice-write-d Inv-loop μ-loop
 slice-write-d c = omega arith
 
--- src/lib.rt:171:9
 add-i : tie.Need-add-i Inv-loop μ-loop
 add-i c = omega arith
 
--- src/lib.rt:169:5
 loop-less : tie.Need-loop-less Inv-loop μ-loop
 loop-less c = omega arith
 
--- src/lib.rt:169:5
 loop-again : tie.Need-loop-again Inv-loop μ-loop
 loop-again c =
     let s = c .before .before .before .args .s .now in
     let l = c .before .before .loop in
     (simp length-set (l .inv .0), rw (add-one, add-suc) (rw (drop-cons s (l .i) 0 (omega arith)) at (l .inv .1)))
 
--- src/lib.rt:164:1
 same-length : tie.Need-same-length Inv-loop μ-loop
 same-length c = c .before .loop .inv .0
 
--- src/lib.rt:164:1
 returns : tie.Need-returns Inv-loop μ-loop
 returns c =
     let s = c .before .before .args .s .now in

@@ -1,3 +1,5 @@
+-- A run that fits is stored whole; of another its front is, and the stores that are left out would have done nothing.
+-- Assumes nothing.
 use Rattle.wire.proofs.Sets.{sets-past, sets-cut}
 use lib.ListN.{length}
 use Prim.Native.Nat.{_-_}
@@ -7,51 +9,37 @@ use native.Mathlib.Omega.{arith}
 use borrow.Author.Needs.{needs}
 use Rattle.wire.proofs.put.Statement.{statement}
 use Rattle.wire.proofs.put.Tie as tie
-use Rattle.wire.proofs.put.Reads as reads
-use Rattle.wire.proofs.put.Lts as lts
-use Rattle.wire.proofs.lay.Reads as lay-reads
 
--- src/lib.rt:100:9
 returns : tie.Need-returns
 returns c = sym (sets-past (c .before .before .before .args .d .now) (c .before .before .before .args .at) (c .before .before .before .args .s .now) (c .if1 .taken))
 
--- src/lib.rt:102:16
 sub-room : tie.Need-sub-room
 sub-room c = search needs
 
--- src/lib.rt:104:9
 lay-requires : tie.Need-lay-requires
 lay-requires c κs = search needs
 
--- src/lib.rt:106:20
 sub-lay : tie.Need-sub-lay
 sub-lay c = search needs
 
--- src/lib.rt:106:20
 part-lay-start : tie.Need-part-lay-start
 part-lay-start c = search needs
 
--- src/lib.rt:106:20
 part-lay-end : tie.Need-part-lay-end
 part-lay-end c = search needs
 
--- src/lib.rt:106:9
 lay-requires-2 : tie.Need-lay-requires-2
 lay-requires-2 c κs = search needs
 
--- src/lib.rt:96:1
 same-length : tie.Need-same-length
 same-length c = search needs
 
--- src/lib.rt:96:1
 returns-2 : tie.Need-returns-2
 returns-2 c = search needs
 
--- src/lib.rt:96:1
 same-length-2 : tie.Need-same-length-2
 same-length-2 c = search needs
 
--- src/lib.rt:96:1
 returns-3 : tie.Need-returns-3
 returns-3 c =
     let a = c .before .before .before .before .before .before .before .before .before .args in

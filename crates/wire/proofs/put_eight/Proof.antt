@@ -1,37 +1,29 @@
+-- The low four bytes and then the high four are the eight bytes of the number.
+-- Assumes nothing.
 use Rattle.wire.proofs.Laws.{leBytes-split, leBytes-low, leBytes-length}
 use Rattle.wire.proofs.Sets.{sets-append}
 use borrow.Author.Needs.{needs}
 use Rattle.wire.proofs.put_eight.Statement.{statement}
 use Rattle.wire.proofs.put_eight.Tie as tie
-use Rattle.wire.proofs.put_eight.Reads as reads
-use Rattle.wire.proofs.put_eight.Lts as lts
-use Rattle.wire.proofs.put_four.Reads as put-four-reads
 
--- src/lib.rt:145:21
 cast-put-four : tie.Need-cast-put-four
 cast-put-four c = search needs
 
--- src/lib.rt:145:5
 put-four-requires : tie.Need-put-four-requires
 put-four-requires c κs = search needs
 
--- src/lib.rt:146:17
 add-put-four : tie.Need-add-put-four
 add-put-four c = search needs
 
--- src/lib.rt:146:25
 cast-put-four-2 : tie.Need-cast-put-four-2
 cast-put-four-2 c = search needs
 
--- src/lib.rt:146:5
 put-four-requires-2 : tie.Need-put-four-requires-2
 put-four-requires-2 c κs = search needs
 
--- src/lib.rt:141:1
 same-length : tie.Need-same-length
 same-length c = search needs
 
--- src/lib.rt:141:1
 returns : tie.Need-returns
 returns c =
     let x = c .before .before .before .before .before .before .before .before .before .args .x in

@@ -1,3 +1,5 @@
+-- Past the end nothing is stored; else the two bytes are, each if it fits.
+-- Assumes nothing.
 use mathlib.Core.Path.{sym}
 use native.Mathlib.Numerals.{add-one}
 use Rattle.wire.proofs.Sets.{sets-past}
@@ -5,39 +7,28 @@ use Rattle.wire.specs.Le.{leBytes}
 use borrow.Author.Needs.{needs}
 use Rattle.wire.proofs.put_u16.Statement.{statement}
 use Rattle.wire.proofs.put_u16.Tie as tie
-use Rattle.wire.proofs.put_u16.Reads as reads
-use Rattle.wire.proofs.put_u16.Lts as lts
-use Rattle.wire.proofs.put_byte.Reads as put-byte-reads
 
--- src/lib.rt:59:9
 returns : tie.Need-returns
 returns c = sym (sets-past (c .before .before .args .d .now) (c .before .before .args .at) (leBytes 2 (c .before .before .args .x)) (c .if1 .taken))
 
--- src/lib.rt:61:21
 cast-put-byte : tie.Need-cast-put-byte
 cast-put-byte c = search needs
 
--- src/lib.rt:61:5
 put-byte-requires : tie.Need-put-byte-requires
 put-byte-requires c κs = search needs
 
--- src/lib.rt:62:17
 add-put-byte : tie.Need-add-put-byte
 add-put-byte c = search needs
 
--- src/lib.rt:62:25
 cast-put-byte-2 : tie.Need-cast-put-byte-2
 cast-put-byte-2 c = search needs
 
--- src/lib.rt:62:5
 put-byte-requires-2 : tie.Need-put-byte-requires-2
 put-byte-requires-2 c κs = search needs
 
--- src/lib.rt:55:1
 same-length : tie.Need-same-length
 same-length c = search needs
 
--- src/lib.rt:55:1
 returns-2 : tie.Need-returns-2
 unfolding leBytes
 returns-2 c = rw (c .before .before .put-byte2 .ensures, c .before .before .before .before .before .before .put-byte .ensures, add-one)

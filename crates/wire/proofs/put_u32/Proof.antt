@@ -1,3 +1,5 @@
+-- Past the end nothing is stored; else the four bytes are, at once where they fit and else by halves, each of which stores what fits.
+-- Assumes nothing.
 use mathlib.Core.Path.{sym}
 use Rattle.wire.proofs.Laws.{leBytes-split, leBytes-low, leBytes-length}
 use Rattle.wire.proofs.Sets.{sets-past, sets-append}
@@ -5,56 +7,40 @@ use Rattle.wire.specs.Le.{leBytes}
 use borrow.Author.Needs.{needs}
 use Rattle.wire.proofs.put_u32.Statement.{statement}
 use Rattle.wire.proofs.put_u32.Tie as tie
-use Rattle.wire.proofs.put_u32.Reads as reads
-use Rattle.wire.proofs.put_u32.Lts as lts
-use Rattle.wire.proofs.put_four.Reads as put-four-reads
-use Rattle.wire.proofs.put_u16.Reads as put-u16-reads
 
--- src/lib.rt:130:9
 returns : tie.Need-returns
 returns c = sym (sets-past (c .before .before .args .d .now) (c .before .before .args .at) (leBytes 4 (c .before .before .args .x)) (c .if1 .taken))
 
--- src/lib.rt:132:13
 sub-if2 : tie.Need-sub-if2
 sub-if2 c = search needs
 
--- src/lib.rt:133:9
 put-four-requires : tie.Need-put-four-requires
 put-four-requires c κs = search needs
 
--- src/lib.rt:134:9
 same-length : tie.Need-same-length
 same-length c = search needs
 
--- src/lib.rt:134:9
 returns-2 : tie.Need-returns-2
 returns-2 c = search needs
 
--- src/lib.rt:136:20
 cast-put-u16 : tie.Need-cast-put-u16
 cast-put-u16 c = search needs
 
--- src/lib.rt:136:5
 put-u16-requires : tie.Need-put-u16-requires
 put-u16-requires c κs = search needs
 
--- src/lib.rt:137:16
 add-put-u16 : tie.Need-add-put-u16
 add-put-u16 c = search needs
 
--- src/lib.rt:137:24
 cast-put-u16-2 : tie.Need-cast-put-u16-2
 cast-put-u16-2 c = search needs
 
--- src/lib.rt:137:5
 put-u16-requires-2 : tie.Need-put-u16-requires-2
 put-u16-requires-2 c κs = search needs
 
--- src/lib.rt:126:1
 same-length-2 : tie.Need-same-length-2
 same-length-2 c = search needs
 
--- src/lib.rt:126:1
 returns-3 : tie.Need-returns-3
 returns-3 c =
     let x = c .before .before .before .before .before .before .before .before .before .before .before .args .x in

@@ -1,3 +1,5 @@
+-- Past the end nothing is stored; else the eight bytes are, at once where they fit and else by halves, each of which stores what fits.
+-- Assumes nothing.
 use mathlib.Core.Path.{sym}
 use Rattle.wire.proofs.Laws.{leBytes-split, leBytes-low, leBytes-length}
 use Rattle.wire.proofs.Sets.{sets-past, sets-append}
@@ -5,56 +7,40 @@ use Rattle.wire.specs.Le.{leBytes}
 use borrow.Author.Needs.{needs}
 use Rattle.wire.proofs.put_u64.Statement.{statement}
 use Rattle.wire.proofs.put_u64.Tie as tie
-use Rattle.wire.proofs.put_u64.Reads as reads
-use Rattle.wire.proofs.put_u64.Lts as lts
-use Rattle.wire.proofs.put_eight.Reads as put-eight-reads
-use Rattle.wire.proofs.put_u32.Reads as put-u32-reads
 
--- src/lib.rt:153:9
 returns : tie.Need-returns
 returns c = sym (sets-past (c .before .before .args .d .now) (c .before .before .args .at) (leBytes 8 (c .before .before .args .x)) (c .if1 .taken))
 
--- src/lib.rt:155:13
 sub-if2 : tie.Need-sub-if2
 sub-if2 c = search needs
 
--- src/lib.rt:156:9
 put-eight-requires : tie.Need-put-eight-requires
 put-eight-requires c κs = search needs
 
--- src/lib.rt:157:9
 same-length : tie.Need-same-length
 same-length c = search needs
 
--- src/lib.rt:157:9
 returns-2 : tie.Need-returns-2
 returns-2 c = search needs
 
--- src/lib.rt:159:20
 cast-put-u32 : tie.Need-cast-put-u32
 cast-put-u32 c = search needs
 
--- src/lib.rt:159:5
 put-u32-requires : tie.Need-put-u32-requires
 put-u32-requires c κs = search needs
 
--- src/lib.rt:160:16
 add-put-u32 : tie.Need-add-put-u32
 add-put-u32 c = search needs
 
--- src/lib.rt:160:24
 cast-put-u32-2 : tie.Need-cast-put-u32-2
 cast-put-u32-2 c = search needs
 
--- src/lib.rt:160:5
 put-u32-requires-2 : tie.Need-put-u32-requires-2
 put-u32-requires-2 c κs = search needs
 
--- src/lib.rt:149:1
 same-length-2 : tie.Need-same-length-2
 same-length-2 c = search needs
 
--- src/lib.rt:149:1
 returns-3 : tie.Need-returns-3
 returns-3 c =
     let x = c .before .before .before .before .before .before .before .before .before .before .before .args .x in

@@ -1,3 +1,5 @@
+-- The sum of two bytes, each by its weight.
+-- Assumes nothing.
 use native.Mathlib.Omega.{arith}
 use mathlib.Core.Path.{sym}
 use Prim.Native.Nat.{_+_, _<_}
@@ -8,39 +10,28 @@ use Rattle.wire.proofs.Laws.{bytes-two}
 use borrow.Author.Needs.{needs}
 use Rattle.wire.proofs.two.Statement.{statement}
 use Rattle.wire.proofs.two.Tie as tie
-use Rattle.wire.proofs.two.Reads as reads
-use Rattle.wire.proofs.two.Lts as lts
-use Rattle.wire.proofs.at.Reads as at-reads
 
--- src/lib.rt:34:5
 at-requires : tie.Need-at-requires
 at-requires c κs = search needs
 
--- src/lib.rt:34:5
 cast-result : tie.Need-cast-result
 cast-result c = search needs
 
--- src/lib.rt:34:29
 add-at : tie.Need-add-at
 add-at c = search needs
 
--- src/lib.rt:34:23
 at-requires-2 : tie.Need-at-requires-2
 at-requires-2 c κs = search needs
 
--- src/lib.rt:34:23
 cast-result-2 : tie.Need-cast-result-2
 cast-result-2 c = search needs
 
--- src/lib.rt:34:23
 mul-result : tie.Need-mul-result
 mul-result c = search needs
 
--- src/lib.rt:34:5
 add-result : tie.Need-add-result
 add-result c = search needs
 
--- src/lib.rt:30:1
 returns : tie.Need-returns
 unfolding le
 returns c =

@@ -1,3 +1,4 @@
+-- An account index inside the list is looked up among the keys, any other is the stand-in, as the definition tests it.
 use borrow.Author.Tests.{lt-ltb, le-ltb}
 use borrow.Author.Needs.{needs}
 use Rattle.mints.proofs.notes.account_key.Statement.{statement}
@@ -7,23 +8,18 @@ use Rattle.mints.proofs.notes.account_key.Lts as lts
 use Rattle.ids.proofs.key.Reads as key-reads
 use Rattle.wire.proofs.byte.Reads as byte-reads
 
--- src/notes.rt:73:51
 byte-requires : tie.Need-byte-requires
 byte-requires c κs = search needs
 
--- src/notes.rt:73:51
 cast-key : tie.Need-cast-key
 cast-key c = search needs
 
--- src/notes.rt:73:29
 key-requires : tie.Need-key-requires
 key-requires c κs = search needs
 
--- src/notes.rt:70:1
 returns : tie.Need-returns
 returns c = simp (lt-ltb _ _ (c .before .before .if1 .taken), c .key .ensures, c .before .byte .ensures)
 
--- src/notes.rt:70:1
 returns-2 : tie.Need-returns-2
 returns-2 c = simp (le-ltb _ _ (c .if1 .left))
 

@@ -1,3 +1,4 @@
+-- The array that the mint is compared with is the zero key.
 use Rattle.ids.specs.Keys.{zeroKey}
 use borrow.Author.Needs.{needs}
 use Rattle.mints.proofs.notes.is_zero.Statement.{statement}
@@ -6,15 +7,12 @@ use Rattle.mints.proofs.notes.is_zero.Reads as reads
 use Rattle.mints.proofs.notes.is_zero.Lts as lts
 use Rattle.wire.proofs.equal.Reads as equal-reads
 
--- src/notes.rt:31:23
 slice-aggregate-equal : tie.Need-slice-aggregate-equal
 slice-aggregate-equal c = search needs
 
--- src/notes.rt:31:5
 equal-requires : tie.Need-equal-requires
 equal-requires c κs = search needs
 
--- src/notes.rt:27:1
 returns : tie.Need-returns
 unfolding zeroKey
 returns c = c .equal .ensures

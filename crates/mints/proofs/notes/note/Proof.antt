@@ -1,3 +1,5 @@
+-- The state is tested before the mint, the definition tests the mint first; each way through leaves what the definition leaves, because a zero mint changes
+-- nothing in any state.
 use Rattle.mints.specs.Cells.{withMint, withState}
 use Rattle.mints.proofs.Noting.{note-zero, note-first, note-ambiguous, note-again, note-other}
 use native.Mathlib.Nat.{add-sub-cancel-left}
@@ -11,139 +13,108 @@ use Rattle.mints.proofs.notes.is_zero.Reads as is-zero-reads
 use Rattle.wire.proofs.equal.Reads as equal-reads
 use Rattle.wire.proofs.put.Reads as put-reads
 
--- src/notes.rt:39:23
 mul-state : tie.Need-mul-state
 mul-state c = search needs
 
--- src/notes.rt:39:23
 add-state : tie.Need-add-state
 add-state c = search needs
 
--- src/notes.rt:39:17
 slice-read-state : tie.Need-slice-read-state
 slice-read-state c = search needs
 
--- src/notes.rt:41:12
 is-zero-requires : tie.Need-is-zero-requires
 is-zero-requires c κs = search needs
 
--- src/notes.rt:42:13
 returns : tie.Need-returns
 returns c =
     let a = c .before .before .before .before .before .before .args in
     note-zero (a .table .now) (a .r) (a .mint .now) (sym (c .before .is-zero .ensures) ∙ c .if2 .taken)
 
--- src/notes.rt:44:26
 mul-put : tie.Need-mul-put
 mul-put c = search needs
 
--- src/notes.rt:44:26
 add-put : tie.Need-add-put
 add-put c = search needs
 
--- src/notes.rt:44:9
 put-requires : tie.Need-put-requires
 put-requires c κs = search needs
 
--- src/notes.rt:45:15
 mul-table : tie.Need-mul-table
 mul-table c = search needs
 
--- src/notes.rt:45:15
 add-table : tie.Need-add-table
 add-table c = search needs
 
--- src/notes.rt:45:9
 slice-write-table : tie.Need-slice-write-table
 slice-write-table c = search needs
 
--- src/notes.rt:46:9
 same-length : tie.Need-same-length
 same-length c = search needs
 
--- src/notes.rt:46:9
 returns-2 : tie.Need-returns-2
 unfolding withMint
 returns-2 c =
     let a = c .before .before .before .before .before .before .before .before .before .before .args in
     rw (c .before .before .put .ensures) (note-first (a .table .now) (a .r) (a .mint .now) (sym (c .before .before .before .before .before .is-zero .ensures) ∙ c .before .before .before .before .if2 .left) (c .before .before .before .before .before .before .if1 .taken))
 
--- src/notes.rt:49:9
 returns-3 : tie.Need-returns-3
 returns-3 c =
     let a = c .before .before .before .before .before .args in
     note-ambiguous (a .table .now) (a .r) (a .mint .now) (c .before .if1 .left) (c .if3 .taken)
 
--- src/notes.rt:52:14
 mul-at : tie.Need-mul-at
 mul-at c = search needs
 
--- src/notes.rt:52:14
 add-at : tie.Need-add-at
 add-at c = search needs
 
--- src/notes.rt:53:37
 add-equal : tie.Need-add-equal
 add-equal c = search needs
 
--- src/notes.rt:53:26
 sub-equal : tie.Need-sub-equal
 sub-equal c = search needs
 
--- src/notes.rt:53:26
 part-equal-start : tie.Need-part-equal-start
 part-equal-start c = search needs
 
--- src/notes.rt:53:26
 part-equal-end : tie.Need-part-equal-end
 part-equal-end c = search needs
 
--- src/notes.rt:53:8
 equal-requires : tie.Need-equal-requires
 equal-requires c κs = search needs
 
--- src/notes.rt:54:9
 same-length-2 : tie.Need-same-length-2
 same-length-2 c = search needs
 
--- src/notes.rt:54:9
 returns-4 : tie.Need-returns-4
 returns-4 c =
     let a = c .before .before .before .before .before .before .before .before .before .args in
     let e = simp add-sub-cancel-left at (c .before .equal .ensures) in
     note-again (a .table .now) (a .r) (a .mint .now) (c .before .before .before .before .if3 .left) (sym e ∙ c .if4 .taken)
 
--- src/notes.rt:56:8
 is-zero-requires-2 : tie.Need-is-zero-requires-2
 is-zero-requires-2 c κs = search needs
 
--- src/notes.rt:57:9
 same-length-3 : tie.Need-same-length-3
 same-length-3 c = search needs
 
--- src/notes.rt:57:9
 returns-5 : tie.Need-returns-5
 returns-5 c =
     let a = c .before .before .before .before .before .before .before .before .before .before .before .args in
     note-zero (a .table .now) (a .r) (a .mint .now) (sym (c .before .is-zero2 .ensures) ∙ c .if5 .taken)
 
--- src/notes.rt:59:11
 mul-table-2 : tie.Need-mul-table-2
 mul-table-2 c = search needs
 
--- src/notes.rt:59:11
 add-table-2 : tie.Need-add-table-2
 add-table-2 c = search needs
 
--- src/notes.rt:59:5
 slice-write-table-2 : tie.Need-slice-write-table-2
 slice-write-table-2 c = search needs
 
--- src/notes.rt:35:1
 same-length-4 : tie.Need-same-length-4
 same-length-4 c = search needs
 
--- src/notes.rt:35:1
 returns-6 : tie.Need-returns-6
 unfolding withState
 returns-6 c =

@@ -1,8 +1,9 @@
+-- Each turn notes one balance row more, and a note records at most one account more, so the count does not overflow.
 use Rattle.mints.proofs.Noting.{one-new, balance-next}
-use Rattle.mints.specs.Note.{Noted, noteAt, balancesTo}
+use Rattle.mints.specs.Note.{noteAt, balancesTo}
 use lib.ListN.{length, take, drop, length-take, length-drop}
 use Prim.Native.Nat.{_+_, _*_, _-_, _/_, _≤_}
-use mathlib.Core.Path.{_≡_, refl, sym, ap, _∙_}
+use mathlib.Core.Path.{_≡_, refl, _∙_}
 use native.Mathlib.Omega.{arith}
 use Rattle.mints.proofs.notes.note_balances.Statement.{statement}
 use Rattle.mints.proofs.notes.note_balances.Tie as tie
@@ -18,96 +19,80 @@ Inv-loop balances row table₀ room₀ i₀ table room i = (i ≤ length balance
 abbrev μ-loop : tie.MeasureT-loop
 μ-loop balances row table₀ room₀ i₀ table room i = length balances / 36 - i
 
--- src/notes.rt:48:5
 loop-holds : tie.Need-loop-holds Inv-loop μ-loop
 unfolding balancesTo
 loop-holds c = (omega arith, refl, omega arith, refl)
 
--- src/notes.rt:49:18
 mul-at : tie.Need-mul-at Inv-loop μ-loop
 mul-at c = omega arith
 
--- src/notes.rt:50:29
 u32-at-requires : tie.Need-u32-at-requires Inv-loop μ-loop
 u32-at-requires c κs = tt
 
--- src/notes.rt:50:29
 cast-row-of : tie.Need-cast-row-of Inv-loop μ-loop
 cast-row-of c = omega arith
 
--- src/notes.rt:50:13
 row-of-requires : tie.Need-row-of-requires Inv-loop μ-loop
 row-of-requires c κs = tt
 
--- src/notes.rt:51:42
 add-note : tie.Need-add-note Inv-loop μ-loop
 add-note c = omega arith
 
--- src/notes.rt:51:50
 add-note-2 : tie.Need-add-note-2 Inv-loop μ-loop
 add-note-2 c = omega arith
 
--- src/notes.rt:51:32
 sub-note : tie.Need-sub-note Inv-loop μ-loop
 sub-note c = omega arith
 
--- src/notes.rt:51:32
 part-note-start : tie.Need-part-note-start Inv-loop μ-loop
 part-note-start c = omega arith
 
--- src/notes.rt:51:32
 part-note-end : tie.Need-part-note-end Inv-loop μ-loop
 part-note-end c = omega arith
 
--- src/notes.rt:51:17
 note-requires : tie.Need-note-requires Inv-loop μ-loop
 note-requires c κs =
+    let start = c .before .before .before .before .before .before .before .before .before in
     let l = c .before .before .before .before .before .loop in
-    let s = c .before .before .before .before .before .before .before .before .before .args .balances .now in (
+    let s = start .args .balances .now in (
       simp (length-take, length-drop) (omega arith),
-      omega (arith, c .before .before .row-of .ensures, c .before .before .before .before .before .before .before .before .before .pre (c .before .before .before .u32-at .result)),
+      omega (arith, c .before .before .row-of .ensures, start .pre (c .before .before .before .u32-at .result)),
     )
 
--- src/notes.rt:51:9
 add-room : tie.Need-add-room Inv-loop μ-loop
 add-room c =
     let l = c .before .before .before .before .before .before .before .before .loop in
     let a = c .before .before .before .before .before .before .before .before .before .before .before .before .args in
     omega (arith, c .before .before .note .ensures .1, one-new (l .table) (c .before .before .before .before .before .row-of .result) (take (l .i * 36 + 36 - (l .i * 36 + 4)) (drop (l .i * 36 + 4) (a .balances .now))))
 
--- src/notes.rt:52:9
 add-i : tie.Need-add-i Inv-loop μ-loop
 add-i c = omega arith
 
--- src/notes.rt:48:5
 loop-less : tie.Need-loop-less Inv-loop μ-loop
 loop-less c = omega arith
 
--- src/notes.rt:48:5
 loop-again : tie.Need-loop-again Inv-loop μ-loop
 unfolding noteAt
 loop-again c =
+    let row-of = c .before .before .before .before .before .row-of in
     let l = c .before .before .before .before .before .before .before .before .loop in
     let a = c .before .before .before .before .before .before .before .before .before .before .before .before .args in
     let q = c .before .before .note .ensures in
     let w : l .i * 36 + 36 - (l .i * 36 + 4) ≡ 32 = omega arith in (
       omega arith,
       c .before .before .note .kept .0 ∙ l .inv .1,
-      omega (arith, q .1, one-new (l .table) (c .before .before .before .before .before .row-of .result) (take (l .i * 36 + 36 - (l .i * 36 + 4)) (drop (l .i * 36 + 4) (a .balances .now)))),
-      rw (q .0, q .1, c .before .before .before .before .before .row-of .ensures, c .before .before .before .before .before .before .u32-at .ensures, w) (balance-next (a .balances .now) (a .row .now) (a .table .now) (l .i) (l .inv .3)),
+      omega (arith, q .1, one-new (l .table) (row-of .result) (take (l .i * 36 + 36 - (l .i * 36 + 4)) (drop (l .i * 36 + 4) (a .balances .now)))),
+      rw (q .0, q .1, row-of .ensures, c .before .before .before .before .before .before .u32-at .ensures, w) (balance-next (a .balances .now) (a .row .now) (a .table .now) (l .i) (l .inv .3)),
     )
 
--- src/notes.rt:42:1
 same-length : tie.Need-same-length Inv-loop μ-loop
 same-length c = c .before .loop .inv .1
 
--- src/notes.rt:42:1
 returns : tie.Need-returns Inv-loop μ-loop
 returns c =
     let l = c .before .loop in
     let n : l .i ≡ length (c .before .before .before .before .before .args .balances .now) / 36 = omega arith in
-    let e = rw n at (l .inv .3) in
-    (sym (ap (λ (x : Noted). x .table) e), sym (ap (λ (x : Noted). x .room) e))
+    rw n at (l .inv .3)
 
 pub note-balances-spec : {M : Type 1} → statement M
 note-balances-spec =

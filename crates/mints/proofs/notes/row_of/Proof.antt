@@ -1,3 +1,4 @@
+-- Past the list the default is 0, the row of the zero key.
 use lib.ListN.{List·getD-eq-default}
 use mathlib.Core.Path.{sym}
 use native.Mathlib.Omega.{arith}
@@ -7,23 +8,18 @@ use Rattle.mints.proofs.notes.row_of.Tie as tie
 use Rattle.mints.proofs.notes.row_of.Reads as reads
 use Rattle.mints.proofs.notes.row_of.Lts as lts
 
--- src/notes.rt:11:28
 mul-result : tie.Need-mul-result
 mul-result c = search needs
 
--- src/notes.rt:11:28
 shared-slice-read-result : tie.Need-shared-slice-read-result
 shared-slice-read-result c = search needs
 
--- src/notes.rt:11:28
 cast-result : tie.Need-cast-result
 cast-result c = omega (arith, c .shared-slice-known .given (c .before .before .args .index))
 
--- src/notes.rt:8:1
 returns : tie.Need-returns
 returns c = search needs
 
--- src/notes.rt:8:1
 returns-2 : tie.Need-returns-2
 returns-2 c = sym (List·getD-eq-default (c .before .args .row .now) 0 (c .if1 .left))
 

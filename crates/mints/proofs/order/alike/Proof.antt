@@ -1,3 +1,4 @@
+-- Eight bytes are there in both, and the parts that are compared are those eight.
 use Rattle.wire.proofs.Same.{same-true}
 use lib.ListN.{take, drop}
 use native.Mathlib.Nat.{add-sub-cancel-left}
@@ -10,59 +11,45 @@ use Rattle.mints.proofs.order.alike.Reads as reads
 use Rattle.mints.proofs.order.alike.Lts as lts
 use Rattle.wire.proofs.equal.Reads as equal-reads
 
--- src/order.rt:16:8
 sub-if1 : tie.Need-sub-if1
 sub-if1 c = omega arith
 
--- src/order.rt:17:9
 returns : tie.Need-returns
 returns c = λ e. absurd (false≢true e)
 
--- src/order.rt:19:8
 sub-if2 : tie.Need-sub-if2
 sub-if2 c = omega arith
 
--- src/order.rt:20:9
 returns-2 : tie.Need-returns-2
 returns-2 c = λ e. absurd (false≢true e)
 
--- src/order.rt:22:23
 add-equal : tie.Need-add-equal
 add-equal c = omega arith
 
--- src/order.rt:22:17
 sub-equal : tie.Need-sub-equal
 sub-equal c = omega arith
 
--- src/order.rt:22:17
 part-equal-start : tie.Need-part-equal-start
 part-equal-start c = omega arith
 
--- src/order.rt:22:17
 part-equal-end : tie.Need-part-equal-end
 part-equal-end c = omega arith
 
--- src/order.rt:22:37
 add-equal-2 : tie.Need-add-equal-2
 add-equal-2 c = omega arith
 
--- src/order.rt:22:31
 sub-equal-2 : tie.Need-sub-equal-2
 sub-equal-2 c = omega arith
 
--- src/order.rt:22:31
 part-equal-start-2 : tie.Need-part-equal-start-2
 part-equal-start-2 c = omega arith
 
--- src/order.rt:22:31
 part-equal-end-2 : tie.Need-part-equal-end-2
 part-equal-end-2 c = omega arith
 
--- src/order.rt:22:5
 equal-requires : tie.Need-equal-requires
 equal-requires c κs = tt
 
--- src/order.rt:12:1
 returns-3 : tie.Need-returns-3
 returns-3 c = λ e.
     let a = c .before .before .before .before .before .before .before .args in

@@ -1,3 +1,4 @@
+-- Elements move one place to the right, last first, so each is read before it is written over.
 use Rattle.mints.proofs.Ordering.{shift-more, inserted}
 use lib.Seq.{sets}
 use lib.ListN.{length, take, drop, length-set}
@@ -15,61 +16,48 @@ Inv-loop order₀ j k r i₀ order i = (j ≤ i) × (i ≤ k) × (length order �
 abbrev μ-loop : tie.MeasureT-loop
 μ-loop order₀ j k r i₀ order i = i
 
--- src/order.rt:53:5
 loop-holds : tie.Need-loop-holds Inv-loop μ-loop
 loop-holds c =
     let a = c .args in
     let e : a .k - a .k ≡ 0 = omega arith in
     (omega arith, omega arith, refl, rw e)
 
--- src/order.rt:54:9
 sub-i : tie.Need-sub-i Inv-loop μ-loop
 sub-i c = omega arith
 
--- src/order.rt:55:24
 mul-order : tie.Need-mul-order Inv-loop μ-loop
 mul-order c = omega arith
 
--- src/order.rt:55:24
 slice-read-order : tie.Need-slice-read-order Inv-loop μ-loop
 slice-read-order c = omega arith
 
--- src/order.rt:55:15
 add-order : tie.Need-add-order Inv-loop μ-loop
 add-order c = omega arith
 
--- src/order.rt:55:9
 mul-order-2 : tie.Need-mul-order-2 Inv-loop μ-loop
 mul-order-2 c = omega arith
 
--- src/order.rt:55:9
 slice-write-order : tie.Need-slice-write-order Inv-loop μ-loop
 slice-write-order c = omega arith
 
--- src/order.rt:53:5
 loop-less : tie.Need-loop-less Inv-loop μ-loop
 loop-less c = omega arith
 
--- src/order.rt:53:5
 loop-again : tie.Need-loop-again Inv-loop μ-loop
 loop-again c =
     let l = c .before .before .loop in
     let a = c .before .before .before .args in
     (omega arith, omega arith, simp length-set (l .inv .2), rw (l .inv .3) (shift-more (a .order .now) (a .k) (l .i) (omega arith) (omega arith) (omega arith)))
 
--- src/order.rt:57:5
 mul-order-3 : tie.Need-mul-order-3 Inv-loop μ-loop
 mul-order-3 c = omega arith
 
--- src/order.rt:57:5
 slice-write-order-2 : tie.Need-slice-write-order-2 Inv-loop μ-loop
 slice-write-order-2 c = omega arith
 
--- src/order.rt:48:1
 same-length : tie.Need-same-length Inv-loop μ-loop
 same-length c = simp length-set (c .before .loop .inv .2)
 
--- src/order.rt:48:1
 returns : tie.Need-returns Inv-loop μ-loop
 returns c =
     let l = c .before .loop in

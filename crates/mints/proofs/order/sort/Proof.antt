@@ -1,3 +1,4 @@
+-- One row more keeps the first k places what the definition's list is; a row with no mint is left out by both.
 use Rattle.mints.proofs.Sorting.{spot-bound, put-length, sort-skip, sort-next, sort-fits, sort-rising}
 use Rattle.mints.specs.Order.{spotIn, sortTo}
 use lib.ListN.{length, take}
@@ -18,65 +19,52 @@ Inv-loop table rows order₀ k₀ next₀ order k next = (next ≤ rows) × (len
 abbrev μ-loop : tie.MeasureT-loop
 μ-loop table rows order₀ k₀ next₀ order k next = rows - next
 
--- src/order.rt:67:5
 loop-holds : tie.Need-loop-holds Inv-loop μ-loop
 unfolding sortTo
 loop-holds c = (omega arith, refl, omega arith, refl, refl)
 
--- src/order.rt:69:9
 add-next : tie.Need-add-next Inv-loop μ-loop
 add-next c = omega arith
 
--- src/order.rt:70:18
 mul-if1 : tie.Need-mul-if1 Inv-loop μ-loop
 mul-if1 c = omega arith
 
--- src/order.rt:70:18
 add-if1 : tie.Need-add-if1 Inv-loop μ-loop
 add-if1 c = omega arith
 
--- src/order.rt:70:12
 shared-slice-read-if1 : tie.Need-shared-slice-read-if1 Inv-loop μ-loop
 shared-slice-read-if1 c = omega arith
 
--- src/order.rt:67:5
 loop-less : tie.Need-loop-less Inv-loop μ-loop
 loop-less c = omega arith
 
--- src/order.rt:67:5
 loop-again : tie.Need-loop-again Inv-loop μ-loop
 loop-again c =
     let l = c .before .before .before .loop in
     let e = sort-skip (c .before .before .before .before .before .before .args .table .now) (l .next) (c .if1 .taken) in
     (omega arith, l .inv .1, omega arith, l .inv .3 ∙ sym (ap length e), l .inv .4 ∙ sym e)
 
--- src/order.rt:73:13
 spot-requires : tie.Need-spot-requires Inv-loop μ-loop
 spot-requires c κs =
     let l = c .before .before .before .before .loop in
     let t = c .before .before .before .before .before .before .before .args .table .now in
     rw (l .inv .4) (omega arith, omega arith, sort-fits t (l .next) (omega arith) (omega arith), sort-rising t (l .next))
 
--- src/order.rt:74:29
 cast-insert : tie.Need-cast-insert Inv-loop μ-loop
 cast-insert c = omega arith
 
--- src/order.rt:74:9
 insert-requires : tie.Need-insert-requires Inv-loop μ-loop
 insert-requires c κs =
     let l = c .before .before .before .before .before .before .loop in
     let t = c .before .before .before .before .before .before .before .before .before .args .table .now in
     (omega (arith, c .before .spot .ensures, spot-bound t (l .next) (take (l .k) (l .order)), ap length (l .inv .4)), omega arith)
 
--- src/order.rt:75:9
 add-k : tie.Need-add-k Inv-loop μ-loop
 add-k c = omega arith
 
--- src/order.rt:67:5
 loop-less-2 : tie.Need-loop-less-2 Inv-loop μ-loop
 loop-less-2 c = omega arith
 
--- src/order.rt:67:5
 loop-again-2 : tie.Need-loop-again-2 Inv-loop μ-loop
 loop-again-2 c =
     let l = c .before .before .before .before .before .before .before .before .before .loop in
@@ -90,11 +78,9 @@ loop-again-2 c =
       rw (add-one (l .k), e) (c .before .before .insert .ensures ∙ rw (c .before .before .before .before .spot .ensures, l .inv .4)),
     )
 
--- src/order.rt:61:1
 same-length : tie.Need-same-length Inv-loop μ-loop
 same-length c = c .before .loop .inv .1
 
--- src/order.rt:61:1
 returns : tie.Need-returns Inv-loop μ-loop
 returns c =
     let l = c .before .loop in

@@ -1,3 +1,4 @@
+-- All rows before `low` are not greater, the one at `high` and all behind it are, because they ascend; where the two meet is the first greater one.
 use Rattle.mints.proofs.Sorting.{fit-at, spot-bound, spot-low, spot-high}
 use Rattle.mints.specs.Order.{spotIn}
 use lib.Seq.{getD-take, length-take-le}
@@ -19,77 +20,68 @@ Inv-loop table order k r x low₀ high₀ low high = (x ≡ r * mintWidth) × (h
 abbrev μ-loop : tie.MeasureT-loop
 μ-loop table order k r x low₀ high₀ low high = high - low
 
--- src/order.rt:54:13
 mul-x : tie.Need-mul-x Inv-loop μ-loop
 mul-x c = omega arith
 
--- src/order.rt:57:5
 loop-holds : tie.Need-loop-holds Inv-loop μ-loop
 loop-holds c =
-    let a = c .before .before .args in
-    (refl, omega arith, omega arith, omega (arith, spot-bound (a .table .now) (a .r) (take (a .k) (a .order .now)), length-take-le (a .k) (a .order .now) (c .before .before .pre .0)))
+    let start = c .before .before in
+    let a = start .args in
+    (refl, omega arith, omega arith, omega (arith, spot-bound (a .table .now) (a .r) (take (a .k) (a .order .now)), length-take-le (a .k) (a .order .now) (start .pre .0)))
 
--- src/order.rt:58:22
 add-middle : tie.Need-add-middle Inv-loop μ-loop
 add-middle c = omega arith
 
--- src/order.rt:59:17
 mul-y : tie.Need-mul-y Inv-loop μ-loop
 mul-y c = omega arith
 
--- src/order.rt:59:17
 shared-slice-read-y : tie.Need-shared-slice-read-y Inv-loop μ-loop
 shared-slice-read-y c = omega arith
 
--- src/order.rt:59:17
 cast-y : tie.Need-cast-y Inv-loop μ-loop
 cast-y c = omega (arith, c .shared-slice-known3 .given ((c .before .before .loop .low + c .before .before .loop .high) / 2))
 
--- src/order.rt:59:17
 mul-y-2 : tie.Need-mul-y-2 Inv-loop μ-loop
-mul-y-2 c = omega (arith, fit-at (c .before .before .before .before .before .args .table .now) (c .before .before .before .before .before .args .order .now) (c .before .before .before .before .before .args .k) ((c .before .before .loop .low + c .before .before .loop .high) / 2) (omega arith) (c .before .before .before .before .before .pre .2))
+mul-y-2 c =
+    let start = c .before .before .before .before .before in
+    omega (arith, fit-at (start .args .table .now) (start .args .order .now) (start .args .k) ((c .before .before .loop .low + c .before .before .loop .high) / 2) (omega arith) (start .pre .2))
 
--- src/order.rt:60:27
 add-less : tie.Need-add-less Inv-loop μ-loop
 add-less c = omega arith
 
--- src/order.rt:60:17
 sub-less : tie.Need-sub-less Inv-loop μ-loop
 sub-less c = omega arith
 
--- src/order.rt:60:17
 part-less-start : tie.Need-part-less-start Inv-loop μ-loop
 part-less-start c = omega arith
 
--- src/order.rt:60:17
 part-less-end : tie.Need-part-less-end Inv-loop μ-loop
 part-less-end c = omega arith
 
--- src/order.rt:60:46
 add-less-2 : tie.Need-add-less-2 Inv-loop μ-loop
-add-less-2 c = omega (arith, fit-at (c .before .before .before .before .before .before .args .table .now) (c .before .before .before .before .before .before .args .order .now) (c .before .before .before .before .before .before .args .k) ((c .before .before .before .loop .low + c .before .before .before .loop .high) / 2) (omega arith) (c .before .before .before .before .before .before .pre .2))
+add-less-2 c =
+    let start = c .before .before .before .before .before .before in
+    let turn = c .before .before .before .loop in
+    omega (arith, fit-at (start .args .table .now) (start .args .order .now) (start .args .k) ((turn .low + turn .high) / 2) (omega arith) (start .pre .2))
 
--- src/order.rt:60:36
 sub-less-2 : tie.Need-sub-less-2 Inv-loop μ-loop
 sub-less-2 c = omega arith
 
--- src/order.rt:60:36
 part-less-start-2 : tie.Need-part-less-start-2 Inv-loop μ-loop
 part-less-start-2 c = omega arith
 
--- src/order.rt:60:36
 part-less-end-2 : tie.Need-part-less-end-2 Inv-loop μ-loop
-part-less-end-2 c = omega (arith, fit-at (c .before .before .before .before .before .before .args .table .now) (c .before .before .before .before .before .before .args .order .now) (c .before .before .before .before .before .before .args .k) ((c .before .before .before .loop .low + c .before .before .before .loop .high) / 2) (omega arith) (c .before .before .before .before .before .before .pre .2))
+part-less-end-2 c =
+    let start = c .before .before .before .before .before .before in
+    let turn = c .before .before .before .loop in
+    omega (arith, fit-at (start .args .table .now) (start .args .order .now) (start .args .k) ((turn .low + turn .high) / 2) (omega arith) (start .pre .2))
 
--- src/order.rt:60:12
 less-requires : tie.Need-less-requires Inv-loop μ-loop
 less-requires c κs = tt
 
--- src/order.rt:57:5
 loop-less : tie.Need-loop-less Inv-loop μ-loop
 loop-less c = omega arith
 
--- src/order.rt:57:5
 loop-again : tie.Need-loop-again Inv-loop μ-loop
 loop-again c =
     let l = c .before .before .before .before .before .before .loop in
@@ -98,26 +90,23 @@ loop-again c =
     let g = getD-take (a .k) (a .order .now) ((l .low + l .high) / 2) 0 (omega arith) in
     (refl, omega arith, l .inv .2, spot-low (a .table .now) (a .r) (take (a .k) (a .order .now)) ((l .low + l .high) / 2) (rw g (sym e ∙ c .if1 .taken)))
 
--- src/order.rt:63:19
 add-low : tie.Need-add-low Inv-loop μ-loop
 add-low c = omega arith
 
--- src/order.rt:57:5
 loop-less-2 : tie.Need-loop-less-2 Inv-loop μ-loop
 loop-less-2 c = omega arith
 
--- src/order.rt:57:5
 loop-again-2 : tie.Need-loop-again-2 Inv-loop μ-loop
 loop-again-2 c =
+    let start = c .before .before .before .before .before .before .before .before .before in
     let l = c .before .before .before .before .before .before .loop in
-    let a = c .before .before .before .before .before .before .before .before .before .args in
+    let a = start .args in
     let e = simp add-sub-cancel-left at (c .before .less .ensures) in
     let g = getD-take (a .k) (a .order .now) ((l .low + l .high) / 2) 0 (omega arith) in
-    let n = length-take-le (a .k) (a .order .now) (c .before .before .before .before .before .before .before .before .before .pre .0) in
-    let h = spot-high (a .table .now) (a .r) {l = take (a .k) (a .order .now)} ((l .low + l .high) / 2) (c .before .before .before .before .before .before .before .before .before .pre .3) (omega (arith, n)) (rw g (sym e ∙ c .if1 .left)) in
+    let n = length-take-le (a .k) (a .order .now) (start .pre .0) in
+    let h = spot-high (a .table .now) (a .r) {l = take (a .k) (a .order .now)} ((l .low + l .high) / 2) (start .pre .3) (omega (arith, n)) (rw g (sym e ∙ c .if1 .left)) in
     (refl, l .inv .1, omega (arith, h), l .inv .3)
 
--- src/order.rt:50:1
 returns : tie.Need-returns Inv-loop μ-loop
 returns c = omega arith
 

@@ -1,5 +1,6 @@
+-- A row with no mint has a zero mint by the definition, and zeros over zeros change nothing.
 use Rattle.mints.proofs.Writing.{mint-none}
-use Rattle.mints.specs.Order.{mintOf}
+use Rattle.mints.specs.Order.{shownMint}
 use native.Mathlib.Nat.{add-sub-cancel-left}
 use borrow.Author.Tests.{lt-ltb}
 use Prim.Native.Nat.{_*_}
@@ -10,60 +11,46 @@ use Rattle.mints.proofs.order.write_mint.Reads as reads
 use Rattle.mints.proofs.order.write_mint.Lts as lts
 use Rattle.wire.proofs.put.Reads as put-reads
 
--- src/order.rt:129:13
 mul-x : tie.Need-mul-x
 mul-x c = search needs
 
--- src/order.rt:129:13
 add-x : tie.Need-add-x
 add-x c = search needs
 
--- src/order.rt:130:18
 mul-if1 : tie.Need-mul-if1
 mul-if1 c = search needs
 
--- src/order.rt:130:18
 add-if1 : tie.Need-add-if1
 add-if1 c = search needs
 
--- src/order.rt:130:12
 shared-slice-read-if1 : tie.Need-shared-slice-read-if1
 shared-slice-read-if1 c = search needs
 
--- src/order.rt:131:24
 mul-put : tie.Need-mul-put
 mul-put c = search needs
 
--- src/order.rt:131:42
 add-put : tie.Need-add-put
 add-put c = search needs
 
--- src/order.rt:131:32
 sub-put : tie.Need-sub-put
 sub-put c = search needs
 
--- src/order.rt:131:32
 part-put-start : tie.Need-part-put-start
 part-put-start c = search needs
 
--- src/order.rt:131:32
 part-put-end : tie.Need-part-put-end
 part-put-end c = search needs
 
--- src/order.rt:131:9
 put-requires : tie.Need-put-requires
 put-requires c κs = search needs
 
--- src/order.rt:125:1
 same-length : tie.Need-same-length
 same-length c = search needs
 
--- src/order.rt:125:1
 returns : tie.Need-returns
-unfolding mintOf
+unfolding shownMint
 returns c = simp (lt-ltb _ _ (c .before .before .before .before .before .if1 .taken)) (simp add-sub-cancel-left at (c .before .before .put .ensures))
 
--- src/order.rt:125:1
 returns-2 : tie.Need-returns-2
 returns-2 c =
     let s = c .before .before .before .before in

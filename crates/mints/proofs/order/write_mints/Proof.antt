@@ -1,5 +1,6 @@
+-- Each turn writes 32 bytes behind the mints before it, and behind these all is zero still.
 use Rattle.mints.proofs.Writing.{mints-length, mints-blank}
-use Rattle.mints.specs.Order.{mintOf, mintsTo}
+use Rattle.mints.specs.Order.{shownMint, mintsTo}
 use Rattle.wire.proofs.Sets.{sets-next}
 use lib.Seq.{sets}
 use lib.ListN.{length, getD}
@@ -19,39 +20,31 @@ Inv-loop table row n out₀ i₀ out i = (i ≤ n) × (length out ≡ length out
 abbrev μ-loop : tie.MeasureT-loop
 μ-loop table row n out₀ i₀ out i = n - i
 
--- src/order.rt:141:5
 loop-holds : tie.Need-loop-holds Inv-loop μ-loop
 unfolding mintsTo
 loop-holds c = (omega arith, refl, refl)
 
--- src/order.rt:142:27
 mul-write-mint : tie.Need-mul-write-mint Inv-loop μ-loop
 mul-write-mint c = omega arith
 
--- src/order.rt:142:27
 shared-slice-read-write-mint : tie.Need-shared-slice-read-write-mint Inv-loop μ-loop
 shared-slice-read-write-mint c = omega arith
 
--- src/order.rt:142:27
 cast-write-mint : tie.Need-cast-write-mint Inv-loop μ-loop
 cast-write-mint c = omega (arith, c .shared-slice-known3 .given (c .before .before .loop .i))
 
--- src/order.rt:142:9
 write-mint-requires : tie.Need-write-mint-requires Inv-loop μ-loop
 write-mint-requires c κs =
     let l = c .before .before .before .loop in
     let s = c .before .before .before .before .before .before .before in
     (s .pre .2 (l .i), omega arith, rw (l .inv .2) (mints-blank (s .args .out .now) (s .args .table .now) (s .args .row .now) (l .i) (s .pre .2) (s .pre .3)))
 
--- src/order.rt:143:9
 add-i : tie.Need-add-i Inv-loop μ-loop
 add-i c = omega arith
 
--- src/order.rt:141:5
 loop-less : tie.Need-loop-less Inv-loop μ-loop
 loop-less c = omega arith
 
--- src/order.rt:141:5
 loop-again : tie.Need-loop-again Inv-loop μ-loop
 unfolding mintsTo
 loop-again c =
@@ -60,14 +53,12 @@ loop-again c =
     let a = s .args in (
       omega arith,
       c .before .before .write-mint .kept .1 .1 .1 .0 ∙ l .inv .1,
-      c .before .before .write-mint .ensures ∙ rw (l .inv .2, add-one (l .i)) (sets-next (a .out .now) 0 (mintsTo (a .table .now) (a .row .now) (l .i)) (mintOf (a .table .now) (getD (a .row .now) (l .i) 0)) (l .i * 32) (omega (arith, mints-length (a .table .now) (a .row .now) (l .i) (s .pre .2)))),
+      c .before .before .write-mint .ensures ∙ rw (l .inv .2, add-one (l .i)) (sets-next (a .out .now) 0 (mintsTo (a .table .now) (a .row .now) (l .i)) (shownMint (a .table .now) (getD (a .row .now) (l .i) 0)) (l .i * 32) (omega (arith, mints-length (a .table .now) (a .row .now) (l .i) (s .pre .2)))),
     )
 
--- src/order.rt:136:1
 same-length : tie.Need-same-length Inv-loop μ-loop
 same-length c = c .before .loop .inv .1
 
--- src/order.rt:136:1
 returns : tie.Need-returns Inv-loop μ-loop
 returns c =
     let l = c .before .loop in

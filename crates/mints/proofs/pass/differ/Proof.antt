@@ -1,3 +1,4 @@
+-- The tests are the definition's in its order, and the parts that are compared are the two mints.
 use Rattle.mints.specs.Pass.{differAt}
 use native.Mathlib.Nat.{add-sub-cancel-left}
 use borrow.Author.Tests.{lt-ltb, le-ltb}
@@ -8,93 +9,71 @@ use Rattle.mints.proofs.pass.differ.Reads as reads
 use Rattle.mints.proofs.pass.differ.Lts as lts
 use Rattle.wire.proofs.equal.Reads as equal-reads
 
--- src/pass.rt:92:14
 mul-if1 : tie.Need-mul-if1
 mul-if1 c = search needs
 
--- src/pass.rt:92:14
 add-if1 : tie.Need-add-if1
 add-if1 c = search needs
 
--- src/pass.rt:92:8
 shared-slice-read-if1 : tie.Need-shared-slice-read-if1
 shared-slice-read-if1 c = search needs
 
--- src/pass.rt:93:9
 returns : tie.Need-returns
 unfolding differAt
 returns c = simp (le-ltb _ _ (c .if1 .taken))
 
--- src/pass.rt:95:14
 mul-if2 : tie.Need-mul-if2
 mul-if2 c = search needs
 
--- src/pass.rt:95:14
 add-if2 : tie.Need-add-if2
 add-if2 c = search needs
 
--- src/pass.rt:95:8
 shared-slice-read-if2 : tie.Need-shared-slice-read-if2
 shared-slice-read-if2 c = search needs
 
--- src/pass.rt:96:9
 returns-2 : tie.Need-returns-2
 unfolding differAt
 returns-2 c = simp (le-ltb _ _ (c .if2 .taken), lt-ltb _ _ (c .before .before .if1 .left))
 
--- src/pass.rt:98:13
 mul-x : tie.Need-mul-x
 mul-x c = search needs
 
--- src/pass.rt:98:13
 add-x : tie.Need-add-x
 add-x c = search needs
 
--- src/pass.rt:99:13
 mul-y : tie.Need-mul-y
 mul-y c = search needs
 
--- src/pass.rt:99:13
 add-y : tie.Need-add-y
 add-y c = search needs
 
--- src/pass.rt:100:28
 add-equal : tie.Need-add-equal
 add-equal c = search needs
 
--- src/pass.rt:100:18
 sub-equal : tie.Need-sub-equal
 sub-equal c = search needs
 
--- src/pass.rt:100:18
 part-equal-start : tie.Need-part-equal-start
 part-equal-start c = search needs
 
--- src/pass.rt:100:18
 part-equal-end : tie.Need-part-equal-end
 part-equal-end c = search needs
 
--- src/pass.rt:100:47
 add-equal-2 : tie.Need-add-equal-2
 add-equal-2 c = search needs
 
--- src/pass.rt:100:37
 sub-equal-2 : tie.Need-sub-equal-2
 sub-equal-2 c = search needs
 
--- src/pass.rt:100:37
 part-equal-start-2 : tie.Need-part-equal-start-2
 part-equal-start-2 c = search needs
 
--- src/pass.rt:100:37
 part-equal-end-2 : tie.Need-part-equal-end-2
 part-equal-end-2 c = search needs
 
--- src/pass.rt:100:6
 equal-requires : tie.Need-equal-requires
 equal-requires c κs = search needs
 
--- src/pass.rt:88:1
 returns-3 : tie.Need-returns-3
 unfolding differAt
 returns-3 c = simp (lt-ltb _ _ (c .before .before .before .if2 .left), lt-ltb _ _ (c .before .before .before .before .before .if1 .left), c .equal .ensures, add-sub-cancel-left)

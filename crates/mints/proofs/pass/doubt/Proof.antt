@@ -1,3 +1,4 @@
+-- The test is the definition's, and a marked row is its state stored.
 use Rattle.mints.specs.Pass.{doubtAt}
 use Rattle.mints.specs.Cells.{withState}
 use borrow.Author.Tests.{eq-eqb, ne-eqb}
@@ -7,40 +8,31 @@ use Rattle.mints.proofs.pass.doubt.Tie as tie
 use Rattle.mints.proofs.pass.doubt.Reads as reads
 use Rattle.mints.proofs.pass.doubt.Lts as lts
 
--- src/pass.rt:108:14
 mul-if1 : tie.Need-mul-if1
 mul-if1 c = search needs
 
--- src/pass.rt:108:14
 add-if1 : tie.Need-add-if1
 add-if1 c = search needs
 
--- src/pass.rt:108:8
 slice-read-if1 : tie.Need-slice-read-if1
 slice-read-if1 c = search needs
 
--- src/pass.rt:109:15
 mul-table : tie.Need-mul-table
 mul-table c = search needs
 
--- src/pass.rt:109:15
 add-table : tie.Need-add-table
 add-table c = search needs
 
--- src/pass.rt:109:9
 slice-write-table : tie.Need-slice-write-table
 slice-write-table c = search needs
 
--- src/pass.rt:104:1
 same-length : tie.Need-same-length
 same-length c = search needs
 
--- src/pass.rt:104:1
 returns : tie.Need-returns
 unfolding doubtAt withState
 returns c = simp (eq-eqb _ _ (c .if1 .taken))
 
--- src/pass.rt:104:1
 returns-2 : tie.Need-returns-2
 unfolding doubtAt
 returns-2 c = simp (ne-eqb _ _ (c .if1 .left))

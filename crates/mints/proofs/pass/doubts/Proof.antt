@@ -1,3 +1,4 @@
+-- Each turn marks by one transfer more; marks keep the length, so row numbers go on fitting.
 use borrow.Author.Tests.{not-true, not-false}
 use Rattle.mints.proofs.Passing.{doubt-skip, doubt-both}
 use Rattle.mints.specs.Pass.{doubtsTo}
@@ -18,81 +19,72 @@ Inv-loop table₀ from to n i₀ table i = (i ≤ n) × (length table ≡ length
 abbrev μ-loop : tie.MeasureT-loop
 μ-loop table₀ from to n i₀ table i = n - i
 
--- src/pass.rt:120:5
 loop-holds : tie.Need-loop-holds Inv-loop μ-loop
 unfolding doubtsTo
 loop-holds c = (omega arith, refl, refl)
 
--- src/pass.rt:121:17
 mul-a : tie.Need-mul-a Inv-loop μ-loop
 mul-a c = omega arith
 
--- src/pass.rt:121:17
 shared-slice-read-a : tie.Need-shared-slice-read-a Inv-loop μ-loop
 shared-slice-read-a c = omega arith
 
--- src/pass.rt:121:17
 cast-a : tie.Need-cast-a Inv-loop μ-loop
 cast-a c = omega (arith, c .shared-slice-known3 .given (c .before .before .loop .i))
 
--- src/pass.rt:122:17
 mul-b : tie.Need-mul-b Inv-loop μ-loop
 mul-b c = omega arith
 
--- src/pass.rt:122:17
 shared-slice-read-b : tie.Need-shared-slice-read-b Inv-loop μ-loop
 shared-slice-read-b c = omega arith
 
--- src/pass.rt:122:17
 cast-b : tie.Need-cast-b Inv-loop μ-loop
 cast-b c = omega (arith, c .shared-slice-known4 .given (c .before .before .before .loop .i))
 
--- src/pass.rt:123:9
 add-i : tie.Need-add-i Inv-loop μ-loop
 add-i c = omega arith
 
--- src/pass.rt:124:13
 differ-requires : tie.Need-differ-requires Inv-loop μ-loop
-differ-requires c κs = (omega (arith, c .before .before .before .before .before .before .before .before .pre .2 (c .before .before .before .before .loop .i)), omega (arith, c .before .before .before .before .before .before .before .before .pre .3 (c .before .before .before .before .loop .i)))
+differ-requires c κs =
+    let start = c .before .before .before .before .before .before .before .before in
+    let turn = c .before .before .before .before .loop in
+    (omega (arith, start .pre .2 (turn .i)), omega (arith, start .pre .3 (turn .i)))
 
--- src/pass.rt:120:5
 loop-less : tie.Need-loop-less Inv-loop μ-loop
 loop-less c = omega arith
 
--- src/pass.rt:120:5
 loop-again : tie.Need-loop-again Inv-loop μ-loop
 loop-again c =
     let l = c .before .before .before .before .before .before .loop in
     let a = c .before .before .before .before .before .before .before .before .before .before .args in
     (omega arith, l .inv .1, doubt-skip (a .from .now) (a .to .now) (a .table .now) (l .i) (l .inv .2) (sym (c .before .differ .ensures) ∙ not-true _ (c .if1 .taken)))
 
--- src/pass.rt:127:9
 doubt-requires : tie.Need-doubt-requires Inv-loop μ-loop
 doubt-requires c κs = omega (arith, c .before .before .before .before .before .before .before .before .before .before .before .pre .2 (c .before .before .before .before .before .before .before .loop .i))
 
--- src/pass.rt:128:9
 doubt-requires-2 : tie.Need-doubt-requires-2 Inv-loop μ-loop
 doubt-requires-2 c κs = omega (arith, c .before .before .before .before .before .before .before .before .before .before .before .before .before .before .before .pre .3 (c .before .before .before .before .before .before .before .before .before .before .before .loop .i))
 
--- src/pass.rt:120:5
 loop-less-2 : tie.Need-loop-less-2 Inv-loop μ-loop
 loop-less-2 c = omega arith
 
--- src/pass.rt:120:5
 loop-again-2 : tie.Need-loop-again-2 Inv-loop μ-loop
 loop-again-2 c =
-    let l = c .before .before .before .before .before .before .before .before .before .before .before .before .before .before .loop in
-    let a = c .before .before .before .before .before .before .before .before .before .before .before .before .before .before .before .before .before .before .args in (
-      omega arith,
-      c .before .before .doubt2 .kept .0 ∙ c .before .before .before .before .before .before .doubt .kept .0 ∙ l .inv .1,
-      rw (c .before .before .doubt2 .ensures, c .before .before .before .before .before .before .doubt .ensures) (doubt-both (a .from .now) (a .to .now) (a .table .now) (l .i) (l .inv .2) (sym (c .before .before .before .before .before .before .before .before .before .differ .ensures) ∙ not-false _ (c .before .before .before .before .before .before .before .before .if1 .left))),
+    let at-doubt2 = c .before .before in
+    let at-doubt = at-doubt2 .before .before .before .before in
+    let at-if = at-doubt .before .before in
+    let at-test = at-if .before .before .before .before .before in
+    let turn = at-test .before in
+    let l = turn .loop in
+    let a = turn .before .before .before .before .args in (
+      omega (arith, at-test .loop-test .taken),
+      at-doubt2 .doubt2 .kept .0 ∙ at-doubt .doubt .kept .0 ∙ l .inv .1,
+      rw (at-doubt2 .doubt2 .ensures, at-doubt .doubt .ensures) (doubt-both (a .from .now) (a .to .now) (a .table .now) (l .i) (l .inv .2) (sym (at-if .before .differ .ensures) ∙ not-false _ (at-if .if1 .left))),
     )
 
--- src/pass.rt:115:1
 same-length : tie.Need-same-length Inv-loop μ-loop
 same-length c = c .before .loop .inv .1
 
--- src/pass.rt:115:1
 returns : tie.Need-returns Inv-loop μ-loop
 returns c =
     let l = c .before .loop in

@@ -1,3 +1,4 @@
+-- The rows differ, so the copy never reaches the bytes that it reads.
 use Rattle.mints.specs.Cells.{withMint}
 use Rattle.mints.proofs.Copying.{copy-more}
 use lib.Seq.{sets}
@@ -17,75 +18,59 @@ Inv-loop table₀ a b j₀ table j = (j ≤ 32) × (length table ≡ length tabl
 abbrev μ-loop : tie.MeasureT-loop
 μ-loop table₀ a b j₀ table j = 32 - j
 
--- src/pass.rt:16:5
 loop-holds : tie.Need-loop-holds Inv-loop μ-loop
 loop-holds c = (omega arith, refl, refl)
 
--- src/pass.rt:17:40
 mul-table : tie.Need-mul-table Inv-loop μ-loop
 mul-table c = omega arith
 
--- src/pass.rt:17:40
 add-table : tie.Need-add-table Inv-loop μ-loop
 add-table c = omega arith
 
--- src/pass.rt:17:40
 add-table-2 : tie.Need-add-table-2 Inv-loop μ-loop
 add-table-2 c = omega arith
 
--- src/pass.rt:17:34
 slice-read-table : tie.Need-slice-read-table Inv-loop μ-loop
 slice-read-table c = omega arith
 
--- src/pass.rt:17:15
 mul-table-2 : tie.Need-mul-table-2 Inv-loop μ-loop
 mul-table-2 c = omega arith
 
--- src/pass.rt:17:15
 add-table-3 : tie.Need-add-table-3 Inv-loop μ-loop
 add-table-3 c = omega arith
 
--- src/pass.rt:17:15
 add-table-4 : tie.Need-add-table-4 Inv-loop μ-loop
 add-table-4 c = omega arith
 
--- src/pass.rt:17:9
 slice-write-table : tie.Need-slice-write-table Inv-loop μ-loop
 slice-write-table c = omega arith
 
--- src/pass.rt:18:9
 add-j : tie.Need-add-j Inv-loop μ-loop
 add-j c = omega arith
 
--- src/pass.rt:16:5
 loop-less : tie.Need-loop-less Inv-loop μ-loop
 loop-less c = omega arith
 
--- src/pass.rt:16:5
 loop-again : tie.Need-loop-again Inv-loop μ-loop
 loop-again c =
+    let start = c .before .before .before in
     let l = c .before .before .loop in
-    let a = c .before .before .before .args in
-    let p = c .before .before .before .pre in
+    let a = start .args in
+    let p = start .pre in
     (omega arith, simp length-set (l .inv .1), rw (l .inv .2) (copy-more (a .table .now) (a .a) (a .b) (l .j) (p .0) (p .1) (omega arith)))
 
--- src/pass.rt:20:11
 mul-table-3 : tie.Need-mul-table-3 Inv-loop μ-loop
 mul-table-3 c = omega arith
 
--- src/pass.rt:20:11
 add-table-5 : tie.Need-add-table-5 Inv-loop μ-loop
 add-table-5 c = omega arith
 
--- src/pass.rt:20:5
 slice-write-table-2 : tie.Need-slice-write-table-2 Inv-loop μ-loop
 slice-write-table-2 c = omega arith
 
--- src/pass.rt:11:1
 same-length : tie.Need-same-length Inv-loop μ-loop
 same-length c = simp length-set (c .before .loop .inv .1)
 
--- src/pass.rt:11:1
 returns : tie.Need-returns Inv-loop μ-loop
 unfolding withMint
 returns c =

@@ -1,3 +1,4 @@
+-- The test is the definition's, and a new row is its key stored.
 use borrow.Author.Tests.{eq-eqb, ne-eqb}
 use native.Mathlib.Numerals.{add-one}
 use mathlib.Core.Path.{refl}
@@ -8,27 +9,21 @@ use Rattle.mints.proofs.table.add.Reads as reads
 use Rattle.mints.proofs.table.add.Lts as lts
 use Rattle.wire.proofs.put.Reads as put-reads
 
--- src/table.rt:44:26
 mul-put : tie.Need-mul-put
 mul-put c = search needs
 
--- src/table.rt:44:9
 put-requires : tie.Need-put-requires
 put-requires c κs = search needs
 
--- src/table.rt:45:16
 add-result : tie.Need-add-result
 add-result c = search needs
 
--- src/table.rt:45:9
 same-length : tie.Need-same-length
 same-length c = search needs
 
--- src/table.rt:45:9
 returns : tie.Need-returns
 returns c = simp (eq-eqb _ _ (c .before .before .before .before .if1 .taken), c .before .before .put .ensures, add-one) (refl, refl)
 
--- src/table.rt:39:1
 returns-2 : tie.Need-returns-2
 returns-2 c = simp (ne-eqb _ _ (c .if1 .left)) (refl, refl)
 

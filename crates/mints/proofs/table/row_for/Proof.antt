@@ -1,3 +1,4 @@
+-- Where no row ends in the key's last byte, no row has the key.
 use Rattle.mints.proofs.Search.{unended}
 use mathlib.Core.Path.{sym, ap, _∙_}
 use Prim.Native.Nat.{ℕ}
@@ -10,29 +11,24 @@ use Rattle.mints.proofs.table.row_for.Lts as lts
 use Rattle.mints.proofs.table.find.Reads as find-reads
 use Rattle.wire.proofs.byte.Reads as byte-reads
 
--- src/table.rt:48:13
 byte-requires : tie.Need-byte-requires
 byte-requires c κs = search needs
 
--- src/table.rt:48:13
 cast-if1 : tie.Need-cast-if1
 cast-if1 c = search needs
 
--- src/table.rt:48:8
 element-copy-out-if1 : tie.Need-element-copy-out-if1
 element-copy-out-if1 c = search needs
 
--- src/table.rt:49:9
 returns : tie.Need-returns
 returns c =
-    let a = c .before .before .before .before .before .args in
-    sym (unended (a .table .now) (a .key .now) (a .rows) (a .ends .now) (c .before .before .before .before .before .pre .2) (ap (λ (x : ℕ). getD (a .ends .now) x 0) (sym (c .before .before .byte .ensures)) ∙ c .if1 .taken))
+    let start = c .before .before .before .before .before in
+    let a = start .args in
+    sym (unended (a .table .now) (a .key .now) (a .rows) (a .ends .now) (start .pre .2) (ap (λ (x : ℕ). getD (a .ends .now) x 0) (sym (c .before .before .byte .ensures)) ∙ c .if1 .taken))
 
--- src/table.rt:51:5
 find-requires : tie.Need-find-requires
 find-requires c κs = search needs
 
--- src/table.rt:44:1
 returns-2 : tie.Need-returns-2
 returns-2 c = search needs
 

@@ -1,6 +1,6 @@
 -- A pack that is refused has no layout; any other is filled in.
 -- Assumes nothing.
-use Rattle.pack.specs.Verdict.{numberOf}
+use Rattle.pack.specs.Verdict.{refusalNumber}
 use Rattle.pack.proofs.Filled.{laid-none}
 use mathlib.Core.Path.{refl, sym, ap, _∙_}
 use borrow.Author.Needs.{needs}
@@ -17,12 +17,12 @@ returns : tie.Need-returns
 returns c =
     let p = c .before .before .before .before .before .before .before .before .args .pack .now in
     let v = c .before .before .judge .ensures in
-    let e = c .before .number .ensures ∙ ap numberOf v in
+    let e = c .before .number .ensures ∙ ap refusalNumber v in
     (v, rw (laid-none p (λ z. c .if1 .taken (e ∙ z))) (record { count = refl; ats = refl; outers = refl; inners = refl; heights = refl }))
 
 fill-requires : tie.Need-fill-requires
 fill-requires c κs =
-    let e = c .before .before .before .before .before .number .ensures ∙ ap numberOf (c .before .before .before .before .before .before .judge .ensures) in
+    let e = c .before .before .before .before .before .number .ensures ∙ ap refusalNumber (c .before .before .before .before .before .before .judge .ensures) in
     sym e ∙ c .before .before .before .before .if1 .left
 
 returns-2 : tie.Need-returns-2

@@ -24,10 +24,10 @@ Rest s base i n count g j to f l₀ l =
     sets l (n + j) (map f (numbered i j (innersFrom (λ (x : ℕ). base + x) s (count - j) to))) ≡ sets l₀ n (map f (numbered i 0 (innersFrom (λ (x : ℕ). base + x) s count (g + 6))))
 
 abbrev Inv-loop : tie.InvT-loop
-Inv-loop s base g i n at₀ outer₀ inner₀ height₀ count to₀ j₀ at outer inner height to j = (j ≤ count) × (innersEnd s (count - j) to ≡ groupEnd s g) × Rest s base i n count g j to atOf at₀ at × Rest s base i n count g j to outerOf outer₀ outer × Rest s base i n count g j to innerOf inner₀ inner × Rest s base i n count g j to heightOf height₀ height
+Inv-loop s g at₀ outer₀ inner₀ height₀ base i n count to₀ j₀ at outer inner height to j = (j ≤ count) × (innersEnd s (count - j) to ≡ groupEnd s g) × Rest s base i n count g j to atOf at₀ at × Rest s base i n count g j to outerOf outer₀ outer × Rest s base i n count g j to innerOf inner₀ inner × Rest s base i n count g j to heightOf height₀ height
 
 abbrev μ-loop : tie.MeasureT-loop
-μ-loop s base g i n at₀ outer₀ inner₀ height₀ count to₀ j₀ at outer inner height to j = count - j
+μ-loop s g at₀ outer₀ inner₀ height₀ base i n count to₀ j₀ at outer inner height to j = count - j
 
 -- the fixed part of the next instruction lies in the section
 reach : (c : tie.In-loop Inv-loop μ-loop) → c .before .loop .to + 13 ≤ length (c .before .before .before .before .args .s .now)
@@ -115,13 +115,13 @@ loop-again c =
     let s = a .s .now in
     let n = c .before .before .before .before .u16-at .result in
     let m = l .j in
-    let r : ℕ → ℕ = λ (x : ℕ). a .base + x in
+    let r : ℕ → ℕ = λ (x : ℕ). a .way .base + x in
     let e = c .item-end .ensures in
-    let step = member-next r s (a .i) (a .n) n m (l .to) (omega arith) in (
+    let step = member-next r s (a .way .outer) (a .way .place) n m (l .to) (omega arith) in (
       omega arith,
-      rw e (member-end r s (a .i) (a .n) n m (l .to) (omega arith) ∙ l .inv .1),
-      rw e (step atOf (l .at) (a .base + (l .to + 5)) refl ∙ l .inv .2),
-      rw e (step outerOf (l .outer) (a .i) refl ∙ l .inv .3),
+      rw e (member-end r s (a .way .outer) (a .way .place) n m (l .to) (omega arith) ∙ l .inv .1),
+      rw e (step atOf (l .at) (a .way .base + (l .to + 5)) refl ∙ l .inv .2),
+      rw e (step outerOf (l .outer) (a .way .outer) refl ∙ l .inv .3),
       rw e (step innerOf (l .inner) (m + 1) (add-one m) ∙ l .inv .4),
       rw e (step heightOf (l .height) (c .before .height-code .result) (c .before .height-code .ensures) ∙ l .inv .5),
     )
@@ -135,8 +135,8 @@ returns c =
     let a = c .before .before .before .before .args in
     let s = a .s .now in
     let u = c .before .before .u16-at in
-    let r : ℕ → ℕ = λ (x : ℕ). a .base + x in
-    let last = member-last r s (a .i) (a .n) (u .result) (l .j) (l .to) (omega arith) in
+    let r : ℕ → ℕ = λ (x : ℕ). a .way .base + x in
+    let last = member-last r s (a .way .outer) (a .way .place) (u .result) (l .j) (l .to) (omega arith) in
     rw (← u .ensures)
     (record {
       count = rw (numbered-length, inners-length);

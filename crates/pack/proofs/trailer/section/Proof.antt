@@ -34,7 +34,9 @@ slice-aggregate-result-3 c = search needs
 
 returns-3 : tie.Need-returns-3
 unfolding sectionOf hasSection
-returns-3 c = simp (← c .before .before .before .start .ensures, ← c .before .before .start2 .ensures, le-leb _ _ (c .before .before .before .before .before .if1 .left), lt-ltb _ _ (c .before .before .before .before .if2 .left), lt-leb _ _ (c .before .if3 .taken))
+returns-3 c =
+    let s = c .before .before .before in
+    simp (← s .start .ensures, ← c .before .before .start2 .ensures, le-leb _ _ (s .before .before .if1 .left), lt-ltb _ _ (s .before .if2 .left), lt-leb _ _ (c .before .if3 .taken))
 
 sub-if4 : tie.Need-sub-if4
 sub-if4 c = search needs
@@ -44,7 +46,9 @@ slice-aggregate-result-4 c = search needs
 
 returns-4 : tie.Need-returns-4
 unfolding sectionOf hasSection
-returns-4 c = simp (← c .before .before .before .before .start .ensures, ← c .before .before .before .start2 .ensures, le-leb _ _ (c .before .before .before .before .before .before .if1 .left), lt-ltb _ _ (c .before .before .before .before .before .if2 .left), le-leb _ _ (c .before .before .if3 .left), lt-leb _ _ (c .before .if4 .taken))
+returns-4 c =
+    let s = c .before .before .before .before in
+    simp (← s .start .ensures, ← c .before .before .before .start2 .ensures, le-leb _ _ (s .before .before .if1 .left), lt-ltb _ _ (s .before .if2 .left), le-leb _ _ (c .before .before .if3 .left), lt-leb _ _ (c .before .if4 .taken))
 
 part-result-start : tie.Need-part-result-start
 part-result-start c = search needs
@@ -54,7 +58,9 @@ part-result-end c = search needs
 
 returns-5 : tie.Need-returns-5
 unfolding sectionOf hasSection
-returns-5 c = simp (← c .before .before .before .before .start .ensures, ← c .before .before .before .start2 .ensures, le-leb _ _ (c .before .before .before .before .before .before .if1 .left), lt-ltb _ _ (c .before .before .before .before .before .if2 .left), le-leb _ _ (c .before .before .if3 .left), le-leb _ _ (c .before .if4 .left))
+returns-5 c =
+    let s = c .before .before .before .before in
+    simp (← s .start .ensures, ← c .before .before .before .start2 .ensures, le-leb _ _ (s .before .before .if1 .left), lt-ltb _ _ (s .before .if2 .left), le-leb _ _ (c .before .before .if3 .left), le-leb _ _ (c .before .if4 .left))
 
 pub section-spec : {M : Type 1} → statement M
 section-spec =

@@ -8,7 +8,8 @@ use Prim.Native.Nat.{ℕ, suc, _+_, _-_, _*_, _≤_, _<_}
 use native.Mathlib.Nat.{zero-add}
 use mathlib.Core.Path.{_≡_, refl, sym, _∙_}
 use borrow.Author.Tests.{lt-leb}
-use mathlib.Core.Bool.{true, cond}
+use mathlib.Core.Bool.{Bool, true, cond}
+use mathlib.Core.List.{List}
 use native.Mathlib.Omega.{arith}
 use lib.Dec.{ltb}
 use lib.ListN.{length}
@@ -21,18 +22,34 @@ Inv-loop s o at₀ n₀ at n = (at ≤ length s) × (n ≤ at) × ((f : ℕ) × 
 abbrev μ-loop : tie.MeasureT-loop
 μ-loop s o at₀ n₀ at n = length s - at
 
--- the walk over a group's instructions came to the group's end, in the section
-passed : (c : tie.After-kept Inv-loop μ-loop) → (groupGood (c .before .before .before .before .before .before .before .before .before .before .args .s .now) (c .before .before .before .before .before .before .before .before .loop .at) ≡ true) × (c .before .before .end .given .0 .0 ≡ groupEnd (c .before .before .before .before .before .before .before .before .before .before .args .s .now) (c .before .before .before .before .before .before .before .before .loop .at)) × (c .before .before .end .given .0 .0 ≤ length (c .before .before .before .before .before .before .before .before .before .before .args .s .now)) × (c .before .before .before .before .before .before .before .before .loop .at + 6 + 13 * countAt (c .before .before .before .before .before .before .before .before .before .before .args .s .now) (c .before .before .before .before .before .before .before .before .loop .at) ≤ c .before .before .end .given .0 .0)
+-- the section, and where the group stands in it
+abbrev section : tie.After-kept Inv-loop μ-loop → List ℕ
+section c = c .before .before .before .before .before .before .before .before .before .before .args .s .now
+
+abbrev here : tie.After-kept Inv-loop μ-loop → ℕ
+here c = c .before .before .before .before .before .before .before .before .loop .at
+
+-- where the walk over its instructions came to
+abbrev end : tie.After-kept Inv-loop μ-loop → ℕ
+end c = c .before .before .end .given .0 .0
+
+-- that is the group's end, in the section
+passed : (c : tie.After-kept Inv-loop μ-loop)
+    → (groupGood (section c) (here c) ≡ true) × (end c ≡ groupEnd (section c) (here c)) × (end c ≤ length (section c)) × (here c + 6 + 13 * countAt (section c) (here c) ≤ end c)
 passed c =
-    group-passed (c .before .before .before .before .before .before .before .before .before .before .args .s .now) (c .before .before .before .before .before .before .before .before .loop .at) (omega arith) (c .before .before .end .given .0 .0)
+    group-passed (section c) (here c) (omega arith) (end c)
     (rw (← c .before .before .before .before .before .u16-at .ensures) (sym (c .before .before .end .given .1) ∙ c .before .before .before .before .inners .ensures))
 
+-- whether it names an outer instruction
+abbrev named : tie.After-kept Inv-loop μ-loop → Bool
+named c = ltb (le 4 (section c) (here c)) (c .before .before .before .before .before .before .before .before .before .before .args .o)
+
 -- what it keeps, and that this is no more than it has
-counted : (c : tie.After-kept Inv-loop μ-loop) → c .kept .result ≡ cond (ltb (le 4 (c .before .before .before .before .before .before .before .before .before .before .args .s .now) (c .before .before .before .before .before .before .before .before .loop .at)) (c .before .before .before .before .before .before .before .before .before .before .args .o)) (countAt (c .before .before .before .before .before .before .before .before .before .before .args .s .now) (c .before .before .before .before .before .before .before .before .loop .at)) 0
+counted : (c : tie.After-kept Inv-loop μ-loop) → c .kept .result ≡ cond (named c) (countAt (section c) (here c)) 0
 counted c = rw (c .before .before .before .before .before .u16-at .ensures) at (c .kept .ensures)
 
-few : (c : tie.After-kept Inv-loop μ-loop) → c .kept .result ≤ countAt (c .before .before .before .before .before .before .before .before .before .before .args .s .now) (c .before .before .before .before .before .before .before .before .loop .at)
-few c = kept-few (ltb (le 4 (c .before .before .before .before .before .before .before .before .before .before .args .s .now) (c .before .before .before .before .before .before .before .before .loop .at)) (c .before .before .before .before .before .before .before .before .before .before .args .o)) (countAt (c .before .before .before .before .before .before .before .before .before .before .args .s .now) (c .before .before .before .before .before .before .before .before .loop .at)) (c .kept .result) (counted c)
+few : (c : tie.After-kept Inv-loop μ-loop) → c .kept .result ≤ countAt (section c) (here c)
+few c = kept-few (named c) (countAt (section c) (here c)) (c .kept .result) (counted c)
 
 loop-holds : tie.Need-loop-holds Inv-loop μ-loop
 loop-holds c = (omega arith, omega arith, (suc (length (c .before .args .s .now)), omega arith, refl))
@@ -91,10 +108,12 @@ loop-again c =
     let a = c .before .before .before .before .before .before .before .before .before .before .args in
     let s = a .s .now in
     let f = l .inv .2 .0 in
-    let w = passed c in (
+    let w = passed c in
+    let e : end c ≡ groupEnd s (l .at) = w .1 in
+    let k : c .kept .result ≡ cond (ltb (le 4 s (l .at)) (a .o)) (countAt s (l .at)) 0 = counted c in (
       w .2,
       omega (arith, w .3, few c),
-      (f - 1, omega (arith, l .inv .2 .1, w .3), rw (w .1, counted c) (groups-more s (a .o) f (f - 1) (l .at) (l .n) (omega (arith, l .inv .2 .1)) (omega arith) (w .0) ∙ l .inv .2 .2)),
+      (f - 1, omega (arith, l .inv .2 .1, w .3), rw (e, k) (groups-more s (a .o) f (f - 1) (l .at) (l .n) (omega (arith, l .inv .2 .1)) (omega arith) (w .0) ∙ l .inv .2 .2)),
     )
 
 returns-3 : tie.Need-returns-3 Inv-loop μ-loop

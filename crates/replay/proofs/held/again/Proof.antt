@@ -1,3 +1,5 @@
+-- No call changes the length of a table.
+-- Assumes nothing.
 use mathlib.Core.Path.{_∙_}
 use borrow.Author.Needs.{needs}
 use Rattle.replay.proofs.held.again.Statement.{statement}
@@ -13,10 +15,14 @@ compare-requires : tie.Need-compare-requires
 compare-requires c κs = search needs
 
 same-length : tie.Need-same-length
-same-length c = c .before .before .before .before .before .before .before .before .before .before .before .before .before .before .before .before .route .kept .1 .1 .0 ∙ c .before .before .before .before .before .before .before .before .before .before .before .before .before .before .before .before .before .before .before .before .before .before .before .before .before .before .before .before .before .before .before .before .fill-all .kept .0
+same-length c =
+    let r = c .before .before .before .before .before .before .before .before .before .before .before .before .before .before .before .before in
+    r .route .kept .1 .1 .0 ∙ r .before .before .before .before .before .before .before .before .before .before .before .before .before .before .before .before .fill-all .kept .0
 
 same-length-2 : tie.Need-same-length-2
-same-length-2 c = c .before .before .before .before .before .before .before .before .before .before .before .before .before .before .before .before .route .kept .1 .1 .1 .0 ∙ c .before .before .before .before .before .before .before .before .before .before .before .before .before .before .before .before .before .before .before .before .before .before .before .before .before .before .before .before .before .before .before .before .fill-all .kept .1 .0
+same-length-2 c =
+    let r = c .before .before .before .before .before .before .before .before .before .before .before .before .before .before .before .before in
+    r .route .kept .1 .1 .1 .0 ∙ r .before .before .before .before .before .before .before .before .before .before .before .before .before .before .before .before .fill-all .kept .1 .0
 
 same-length-3 : tie.Need-same-length-3
 same-length-3 c = search needs

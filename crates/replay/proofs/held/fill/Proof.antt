@@ -1,3 +1,5 @@
+-- The index stays in the table, whose length no store changes.
+-- Assumes nothing.
 use mathlib.Core.Path.{_≡_, refl}
 use lib.ListN.{length, length-set}
 use Prim.Native.Nat.{_≤_, _-_}

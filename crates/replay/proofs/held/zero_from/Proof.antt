@@ -1,3 +1,5 @@
+-- The index stays below the table's length.
+-- Assumes nothing.
 use mathlib.Core.Path.{_≡_, refl}
 use lib.ListN.{length}
 use Prim.Native.Nat.{_-_}

@@ -1,34 +1,40 @@
-use Rattle.route.proofs.Rows.{fills-none, fills-more}
-use Rattle.route.specs.Arrays.{itemAt}
+-- The rows so far are those of the invocations so far, and each candidate adds its own behind them.
+use Rattle.route.proofs.Rows.{candidate, fills-none, fills-more}
 use Rattle.route.specs.Known.{Puts, Fills}
+use Rattle.route.specs.Widths.{actionWidth}
 use Rattle.route.specs.Actions.{actionRows}
+use Rattle.pack.specs.Sections.{sectionOf}
 use lib.ListN.{length}
-use Prim.Native.Nat.{_-_, _≤_, ℕ}
-use mathlib.Core.Path.{_≡_, refl, _∙_, sym, ap}
+use Prim.Native.Nat.{_-_, _≤_}
+use mathlib.Core.Path.{_≡_, refl, _∙_}
 use native.Mathlib.Omega.{arith}
-use Rattle.route.specs.Program.{programOf}
-use Rattle.pack.specs.Invocation.{instructionAt}
 use Rattle.route.proofs.actions.put_rows.Statement.{statement}
 use Rattle.route.proofs.actions.put_rows.Tie as tie
 use Rattle.route.proofs.actions.put_rows.Reads as reads
 use Rattle.route.proofs.actions.put_rows.Lts as lts
-use Rattle.route.proofs.actions.put_one.Reads as put-one-reads
 use Rattle.ids.proofs.of_number.Reads as of-number-reads
-use Rattle.route.specs.Widths.{actionWidth}
+use Rattle.pack.proofs.section.Reads as section-reads
+use Rattle.route.proofs.actions.put_one.Reads as put-one-reads
 use Rattle.route.proofs.invocations.wide.Reads as wide-reads
 
 abbrev Inv-loop : tie.InvT-loop
-Inv-loop keys programs pack n at mints out₀ k₀ i₀ out k i =
-    (i ≤ n) × (k ≤ i) × (length out ≡ length out₀) × Fills mints keys (actionRows keys) (itemAt pack at) actionWidth i k out₀ out
+Inv-loop pack n at programs mints out₀ keys k₀ i₀ out k i =
+    (i ≤ n) × (k ≤ i) × (length out ≡ length out₀) × Fills mints pack at (actionRows (sectionOf pack 0)) actionWidth i k out₀ out
 
 abbrev μ-loop : tie.MeasureT-loop
-μ-loop keys programs pack n at mints out₀ k₀ i₀ out k i = n - i
+μ-loop pack n at programs mints out₀ keys k₀ i₀ out k i = n - i
 
--- src/actions.rt:46:5
+section-requires : tie.Need-section-requires Inv-loop μ-loop
+section-requires c κs = tt
+
 loop-holds : tie.Need-loop-holds Inv-loop μ-loop
 loop-holds c =
-    let a = c .before .before .before .before .args in
-    (omega arith, omega arith, refl, fills-none (a .mints .now) (a .keys .now) (actionRows (a .keys .now)) (itemAt (a .pack .now) (a .at .now)) actionWidth (a .out .now))
+    let a = c .before .before .before .before .args in (
+      omega arith,
+      omega arith,
+      refl,
+      fills-none (a .mints .now) (a .pack .now) (a .at .now) (actionRows (sectionOf (a .pack .now) 0)) actionWidth (a .out .now),
+    )
 
 element-copy-out-of-number : tie.Need-element-copy-out-of-number Inv-loop μ-loop
 element-copy-out-of-number c = omega arith
@@ -36,73 +42,56 @@ element-copy-out-of-number c = omega arith
 of-number-requires : tie.Need-of-number-requires Inv-loop μ-loop
 of-number-requires c κs = tt
 
--- src/actions.rt:47:42
 mul-wide : tie.Need-mul-wide Inv-loop μ-loop
 mul-wide c = omega arith
 
--- src/actions.rt:47:42
 element-copy-out-wide : tie.Need-element-copy-out-wide Inv-loop μ-loop
 element-copy-out-wide c = omega arith
 
--- src/actions.rt:47:37
 wide-requires : tie.Need-wide-requires Inv-loop μ-loop
 wide-requires c κs = tt
 
--- src/actions.rt:47:50
-cast-put-one : tie.Need-cast-put-one Inv-loop μ-loop
-cast-put-one c = omega arith
-
--- src/actions.rt:47:13
-put-one-requires : tie.Need-put-one-requires Inv-loop μ-loop
-put-one-requires c κs =
-    let l = c .before .before .before .before .before .before .loop in
-    let a = c .before .before .before .before .before .before .before .before .before .before .before .args in (
-      c .before .before .before .before .before .before .before .before .before .before .before .pre .1,
-      omega arith,
-      c .before .before .before .of-number .ensures ∙ c .before .before .before .before .before .before .before .before .before .before .before .pre .2 (l .i) (omega arith) ∙ ap (λ (o : ℕ). programOf (a .keys .now) (instructionAt (a .pack .now) o)) (sym (c .before .wide .ensures)),
-    )
-
--- src/actions.rt:48:19
 cast-wide : tie.Need-cast-wide Inv-loop μ-loop
 cast-wide c = omega arith
 
--- src/actions.rt:48:14
+put-one-requires : tie.Need-put-one-requires Inv-loop μ-loop
+put-one-requires c κs =
+    let start = c .before .before .before .before .before .before .before .before .before .before .before in
+    (start .pre .1, omega arith, rw (c .before .before .before .before .before .before .before .section .ensures, c .before .wide .ensures) (c .before .before .before .of-number .ensures ∙ start .pre .2 (c .before .before .before .before .before .before .loop .i) (omega arith)))
+
+cast-wide-2 : tie.Need-cast-wide-2 Inv-loop μ-loop
+cast-wide-2 c = omega arith
+
 wide-requires-2 : tie.Need-wide-requires-2 Inv-loop μ-loop
 wide-requires-2 c κs = tt
 
--- src/actions.rt:48:9
 add-k : tie.Need-add-k Inv-loop μ-loop
 add-k c = omega (arith, c .wide2 .ensures, c .before .before .before .put-one .ensures .few)
 
--- src/actions.rt:49:9
 add-i : tie.Need-add-i Inv-loop μ-loop
 add-i c = omega arith
 
--- src/actions.rt:46:5
 loop-less : tie.Need-loop-less Inv-loop μ-loop
 loop-less c = omega arith
 
--- src/actions.rt:46:5
 loop-again : tie.Need-loop-again Inv-loop μ-loop
 loop-again c =
     let l = c .before .before .before .before .before .before .before .before .before .before .loop in
     let a = c .before .before .before .before .before .before .before .before .before .before .before .before .before .before .before .args in
-    let f = actionRows (a .keys .now) in
-    let x = itemAt (a .pack .now) (a .at .now) in
-    let r = c .before .before .before .put-one .result in
-    let one : Puts (a .mints .now) (a .keys .now) (λ table. f table (l .i) (x (l .i))) actionWidth (l .k) r (l .out) (c .before .before .before .put-one .last .1 .1 .1 .1 .1 .1 .0) =
-    rw (c .before .before .before .before .before .wide .ensures) at (c .before .before .before .put-one .ensures) in (
+    let f = actionRows (sectionOf (a .pack .now) 0) in
+    let put = c .before .before .before .put-one in
+    let id = c .before .before .before .before .before .before .before .of-number .result in
+    let one : Puts (a .mints .now) (sectionOf (a .pack .now) 0) (a .pack .now) f actionWidth (candidate (a .at .now) id (l .i) (l .k)) (put .result) (l .out) (put .last .1 .1 .1 .1 .0) =
+    rw (c .before .before .before .before .before .before .before .before .before .before .before .section .ensures, c .before .before .before .before .before .wide .ensures) at (put .ensures) in (
       omega arith,
       omega (arith, c .wide2 .ensures, one .few),
-      c .before .before .before .put-one .kept .1 .1 .1 .1 .1 .1 .0 ∙ l .inv .2,
-      rw (c .wide2 .ensures) (fills-more (a .mints .now) (a .keys .now) f x actionWidth (l .i) (l .k) r (a .out .now) (l .out) _ (l .inv .3) one),
+      put .kept .1 .1 .1 .1 .0 ∙ l .inv .2,
+      rw (c .wide2 .ensures) (fills-more (a .mints .now) (a .pack .now) (a .at .now) f id actionWidth (l .i) (l .k) (put .result) (a .out .now) (l .out) _ (l .inv .3) one),
     )
 
--- src/actions.rt:40:1
 same-length : tie.Need-same-length Inv-loop μ-loop
 same-length c = c .before .loop .inv .2
 
--- src/actions.rt:40:1
 returns : tie.Need-returns Inv-loop μ-loop
 returns c =
     let l = c .before .loop in
@@ -115,15 +104,16 @@ put-rows-spec =
     (tie.spec
     Inv-loop
     μ-loop
+    section-requires
     loop-holds
     element-copy-out-of-number
     of-number-requires
     mul-wide
     element-copy-out-wide
     wide-requires
-    cast-put-one
-    put-one-requires
     cast-wide
+    put-one-requires
+    cast-wide-2
     wide-requires-2
     add-k
     add-i

@@ -1,3 +1,4 @@
+-- The struct is the answer of the definition, field by field.
 use Rattle.route.specs.Route.{refused}
 use mathlib.Core.Path.{refl}
 use Rattle.route.proofs.fit.refusal.Statement.{statement}
@@ -5,7 +6,6 @@ use Rattle.route.proofs.fit.refusal.Tie as tie
 use Rattle.route.proofs.fit.refusal.Reads as reads
 use Rattle.route.proofs.fit.refusal.Lts as lts
 
--- src/fit.rt:7:1
 returns : tie.Need-returns
 unfolding refused
 returns c = refl

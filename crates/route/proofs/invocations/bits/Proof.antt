@@ -1,3 +1,4 @@
+-- Each summand is a part of the definition's sum, and all bits together stay below 64.
 use Rattle.route.specs.Arrays.{bitsAt}
 use Rattle.route.proofs.Row.{programBits-le, ownBits-le}
 use lib.ListN.{getD}
@@ -11,44 +12,34 @@ use Rattle.ids.proofs.of_number.Reads as of-number-reads
 use Rattle.route.proofs.invocations.own_bits.Reads as own-bits-reads
 use Rattle.route.proofs.invocations.program_bits.Reads as program-bits-reads
 
--- src/invocations.rt:138:5
 element-copy-out-result : tie.Need-element-copy-out-result
 element-copy-out-result c = search needs
 
--- src/invocations.rt:138:45
 element-copy-out-of-number : tie.Need-element-copy-out-of-number
 element-copy-out-of-number c = search needs
 
--- src/invocations.rt:138:30
 of-number-requires : tie.Need-of-number-requires
 of-number-requires c κs = search needs
 
--- src/invocations.rt:138:17
 program-bits-requires : tie.Need-program-bits-requires
 program-bits-requires c κs = search needs
 
--- src/invocations.rt:138:5
 add-result : tie.Need-add-result
 add-result c =
     omega (arith, c .program-bits .ensures, programBits-le (c .before .of-number .result), c .before .before .before .before .pre .1)
 
--- src/invocations.rt:138:70
 element-copy-out-own-bits : tie.Need-element-copy-out-own-bits
 element-copy-out-own-bits c = search needs
 
--- src/invocations.rt:138:80
 mul-own-bits : tie.Need-mul-own-bits
 mul-own-bits c = search needs
 
--- src/invocations.rt:138:80
 element-copy-out-own-bits-2 : tie.Need-element-copy-out-own-bits-2
 element-copy-out-own-bits-2 c = search needs
 
--- src/invocations.rt:138:61
 own-bits-requires : tie.Need-own-bits-requires
 own-bits-requires c κs = search needs
 
--- src/invocations.rt:138:5
 add-result-2 : tie.Need-add-result-2
 add-result-2 c =
     omega (
@@ -60,7 +51,6 @@ add-result-2 c =
       c .before .before .before .before .before .before .before .pre .1,
     )
 
--- src/invocations.rt:128:1
 returns : tie.Need-returns
 unfolding bitsAt
 returns c = rw (c .own-bits .ensures, c .before .before .before .program-bits .ensures, c .before .before .before .before .of-number .ensures)

@@ -1,3 +1,4 @@
+-- The four ways of having a leg, a transfer, both or none.
 use Rattle.route.specs.Arrays.{ownBits}
 use Rattle.route.proofs.Row.{positive}
 use borrow.Author.Tests.{lt-ltb, le-ltb}
@@ -7,22 +8,18 @@ use Rattle.route.proofs.invocations.own_bits.Tie as tie
 use Rattle.route.proofs.invocations.own_bits.Reads as reads
 use Rattle.route.proofs.invocations.own_bits.Lts as lts
 
--- src/invocations.rt:71:13
 returns : tie.Need-returns
 unfolding ownBits
 returns c = simp (le-ltb _ _ (le-of-eq (c .before .if1 .taken)), le-ltb _ _ (le-of-eq (c .if2 .taken)))
 
--- src/invocations.rt:73:9
 returns-2 : tie.Need-returns-2
 unfolding ownBits
 returns-2 c = simp (le-ltb _ _ (le-of-eq (c .before .if1 .taken)), lt-ltb 0 _ (positive (c .if2 .left)))
 
--- src/invocations.rt:76:9
 returns-3 : tie.Need-returns-3
 unfolding ownBits
 returns-3 c = simp (lt-ltb 0 _ (positive (c .before .if1 .left)), le-ltb _ _ (le-of-eq (c .if3 .taken)))
 
--- src/invocations.rt:66:1
 returns-4 : tie.Need-returns-4
 unfolding ownBits
 returns-4 c = simp (lt-ltb 0 _ (positive (c .before .if1 .left)), lt-ltb 0 _ (positive (c .if3 .left)))

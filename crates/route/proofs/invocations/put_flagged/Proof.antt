@@ -1,3 +1,4 @@
+-- A number that comes one higher is none where it is 0, and is lowered else; flag and number are stored one behind the other.
 use Rattle.route.specs.Row.{flagged}
 use Rattle.route.proofs.Row.{lowered-above}
 use Rattle.pack.specs.Invocation.{lowered}
@@ -12,53 +13,41 @@ use Rattle.route.proofs.invocations.put_flagged.Lts as lts
 use Rattle.wire.proofs.put_byte.Reads as put-byte-reads
 use Rattle.wire.proofs.put_u32.Reads as put-u32-reads
 
--- src/invocations.rt:14:9
 put-byte-requires : tie.Need-put-byte-requires
 put-byte-requires c κs = search needs
 
--- src/invocations.rt:15:28
 add-put-u32 : tie.Need-add-put-u32
 add-put-u32 c = search needs
 
--- src/invocations.rt:15:9
 put-u32-requires : tie.Need-put-u32-requires
 put-u32-requires c κs = search needs
 
--- src/invocations.rt:16:9
 same-length : tie.Need-same-length
 same-length c = search needs
 
--- src/invocations.rt:16:9
 returns : tie.Need-returns
 unfolding flagged lowered
 returns c =
     rw (c .before .before .put-u32 .ensures, c .before .before .before .before .before .before .put-byte .ensures, c .before .before .before .before .before .before .before .before .if1 .taken, add-one)
 
--- src/invocations.rt:18:5
 put-byte-requires-2 : tie.Need-put-byte-requires-2
 put-byte-requires-2 c κs = search needs
 
--- src/invocations.rt:19:24
 add-put-u32-2 : tie.Need-add-put-u32-2
 add-put-u32-2 c = search needs
 
--- src/invocations.rt:19:34
 sub-put-u32 : tie.Need-sub-put-u32
 sub-put-u32 c = search needs
 
--- src/invocations.rt:19:32
 cast-put-u32 : tie.Need-cast-put-u32
 cast-put-u32 c = search needs
 
--- src/invocations.rt:19:5
 put-u32-requires-2 : tie.Need-put-u32-requires-2
 put-u32-requires-2 c κs = search needs
 
--- src/invocations.rt:9:1
 same-length-2 : tie.Need-same-length-2
 same-length-2 c = search needs
 
--- src/invocations.rt:9:1
 returns-2 : tie.Need-returns-2
 unfolding flagged
 returns-2 c =

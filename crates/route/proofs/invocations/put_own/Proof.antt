@@ -1,6 +1,7 @@
+-- The array so far holds what each invocation so far has itself.
 use Rattle.route.specs.Arrays.{ownAt}
 use Rattle.route.proofs.Rows.{array-more}
-use Rattle.subtrees.specs.Subtrees.{tab}
+use Rattle.wire.specs.Tab.{tab}
 use lib.Seq.{sets}
 use Prim.Native.Nat.{_-_, _≤_}
 use mathlib.Core.Path.{_≡_, refl}
@@ -17,40 +18,31 @@ Inv-loop n moved leg own₀ i₀ own i = (i ≤ n) × (own ≡ sets own₀ 0 (ta
 abbrev μ-loop : tie.MeasureT-loop
 μ-loop n moved leg own₀ i₀ own i = n - i
 
--- src/invocations.rt:113:5
 loop-holds : tie.Need-loop-holds Inv-loop μ-loop
 unfolding tab
 loop-holds c = (omega arith, refl)
 
--- src/invocations.rt:114:26
 element-copy-out-own-for : tie.Need-element-copy-out-own-for Inv-loop μ-loop
 element-copy-out-own-for c = omega arith
 
--- src/invocations.rt:114:36
 mul-own-for : tie.Need-mul-own-for Inv-loop μ-loop
 mul-own-for c = omega arith
 
--- src/invocations.rt:114:36
 element-copy-out-own-for-2 : tie.Need-element-copy-out-own-for-2 Inv-loop μ-loop
 element-copy-out-own-for-2 c = omega arith
 
--- src/invocations.rt:114:18
 own-for-requires : tie.Need-own-for-requires Inv-loop μ-loop
 own-for-requires c κs = tt
 
--- src/invocations.rt:114:9
 element-write-own : tie.Need-element-write-own Inv-loop μ-loop
 element-write-own c = omega arith
 
--- src/invocations.rt:115:9
 add-i : tie.Need-add-i Inv-loop μ-loop
 add-i c = omega arith
 
--- src/invocations.rt:113:5
 loop-less : tie.Need-loop-less Inv-loop μ-loop
 loop-less c = omega arith
 
--- src/invocations.rt:113:5
 loop-again : tie.Need-loop-again Inv-loop μ-loop
 unfolding ownAt
 loop-again c =
@@ -58,7 +50,6 @@ loop-again c =
     let a = c .before .before .before .before .before .args in
     (omega arith, rw (c .own-for .ensures) (array-more (ownAt (a .moved .now) (a .leg .now)) (l .i) (a .own .now) (l .own) (l .inv .1)))
 
--- src/invocations.rt:108:1
 returns : tie.Need-returns Inv-loop μ-loop
 returns c =
     let l = c .before .loop in

@@ -1,3 +1,4 @@
+-- The six fields are stored one behind the other, and fill the row.
 use Rattle.route.proofs.Row.{fields}
 use Rattle.pack.specs.Invocation.{lowered}
 use Rattle.wire.specs.Zeros.{zeros}
@@ -14,67 +15,51 @@ use Rattle.wire.proofs.put_byte.Reads as put-byte-reads
 use Rattle.wire.proofs.put_u32.Reads as put-u32-reads
 use Rattle.route.specs.Widths.{invocationWidth}
 
--- src/invocations.rt:67:19
 slice-aggregate-put-u32 : tie.Need-slice-aggregate-put-u32
 slice-aggregate-put-u32 c = search needs
 
--- src/invocations.rt:67:5
 put-u32-requires : tie.Need-put-u32-requires
 put-u32-requires c κs = search needs
 
--- src/invocations.rt:68:17
 slice-aggregate-put-flagged : tie.Need-slice-aggregate-put-flagged
 slice-aggregate-put-flagged c = search needs
 
--- src/invocations.rt:68:5
 put-flagged-requires : tie.Need-put-flagged-requires
 put-flagged-requires c κs = search needs
 
--- src/invocations.rt:69:17
 slice-aggregate-put-flagged-2 : tie.Need-slice-aggregate-put-flagged-2
 slice-aggregate-put-flagged-2 c = search needs
 
--- src/invocations.rt:69:5
 put-flagged-requires-2 : tie.Need-put-flagged-requires-2
 put-flagged-requires-2 c κs = search needs
 
--- src/invocations.rt:70:19
 slice-aggregate-put-u32-2 : tie.Need-slice-aggregate-put-u32-2
 slice-aggregate-put-u32-2 c = search needs
 
--- src/invocations.rt:70:5
 put-u32-requires-2 : tie.Need-put-u32-requires-2
 put-u32-requires-2 c κs = search needs
 
--- src/invocations.rt:71:20
 slice-aggregate-put-byte : tie.Need-slice-aggregate-put-byte
 slice-aggregate-put-byte c = search needs
 
--- src/invocations.rt:71:5
 put-byte-requires : tie.Need-put-byte-requires
 put-byte-requires c κs = search needs
 
--- src/invocations.rt:72:19
 slice-aggregate-put-u32-3 : tie.Need-slice-aggregate-put-u32-3
 slice-aggregate-put-u32-3 c = search needs
 
--- src/invocations.rt:72:5
 put-u32-requires-3 : tie.Need-put-u32-requires-3
 put-u32-requires-3 c κs = search needs
 
--- src/invocations.rt:73:24
 slice-aggregate-put : tie.Need-slice-aggregate-put
 slice-aggregate-put c = search needs
 
--- src/invocations.rt:73:5
 put-requires : tie.Need-put-requires
 put-requires c κs = search needs
 
--- src/invocations.rt:54:1
 same-length : tie.Need-same-length
 same-length c = search needs
 
--- src/invocations.rt:54:1
 returns : tie.Need-returns
 returns c =
     let a = c .before .before .before .before .before .before .before .before .before .before .before .before .before .before .before .before .before .before .before .before .before .before .before .before .args in

@@ -1,3 +1,4 @@
+-- A count is 0 or 1, so its product with the next number is 0 or that number.
 use native.Mathlib.Nat.{zero-mul, one-mul}
 use native.Mathlib.Numerals.{add-one}
 use native.Mathlib.Omega.{arith}
@@ -8,19 +9,15 @@ use Rattle.route.proofs.legs.number.Tie as tie
 use Rattle.route.proofs.legs.number.Reads as reads
 use Rattle.route.proofs.legs.number.Lts as lts
 
--- src/legs.rt:49:9
 returns : tie.Need-returns
 returns c = rw (c .if1 .taken, zero-mul)
 
--- src/legs.rt:51:5
 cast-result : tie.Need-cast-result
 cast-result c = search needs
 
--- src/legs.rt:51:5
 add-result : tie.Need-add-result
 add-result c = search needs
 
--- src/legs.rt:44:1
 returns-2 : tie.Need-returns-2
 returns-2 c =
     let a = c .before .args in

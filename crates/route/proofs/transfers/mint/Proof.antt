@@ -1,3 +1,4 @@
+-- The 32 bytes at 32 times the index are the mint that the array holds there.
 use native.Mathlib.Nat.{add-sub-cancel-left}
 use borrow.Author.Needs.{needs}
 use Rattle.route.proofs.transfers.mint.Statement.{statement}
@@ -5,27 +6,21 @@ use Rattle.route.proofs.transfers.mint.Tie as tie
 use Rattle.route.proofs.transfers.mint.Reads as reads
 use Rattle.route.proofs.transfers.mint.Lts as lts
 
--- src/transfers.rt:18:14
 mul-at : tie.Need-mul-at
 mul-at c = search needs
 
--- src/transfers.rt:19:16
 add-result : tie.Need-add-result
 add-result c = search needs
 
--- src/transfers.rt:19:5
 sub-result : tie.Need-sub-result
 sub-result c = search needs
 
--- src/transfers.rt:19:5
 part-result-start : tie.Need-part-result-start
 part-result-start c = search needs
 
--- src/transfers.rt:19:5
 part-result-end : tie.Need-part-result-end
 part-result-end c = search needs
 
--- src/transfers.rt:14:1
 returns : tie.Need-returns
 returns c = simp add-sub-cancel-left
 

@@ -1,49 +1,43 @@
+-- Tag and accounts are tested as in the definition, the short form first; of empty data `byte` reads 0, as the definition does.
+-- Assumes nothing.
 use Rattle.swaps.specs.AmmV4.{ammV4}
-use mathlib.Core.Path.{sym, _∙_}
-use borrow.Author.Needs.{needs}
 use Rattle.swaps.proofs.amm_v4.leg.Statement.{statement}
 use Rattle.swaps.proofs.amm_v4.leg.Tie as tie
-use Rattle.swaps.proofs.amm_v4.leg.Reads as reads
-use Rattle.swaps.proofs.amm_v4.leg.Lts as lts
-use Rattle.swaps.proofs.amm_v4.long.Reads as long-reads
-use Rattle.swaps.proofs.amm_v4.short.Reads as short-reads
-use Rattle.swaps.proofs.amm_v4.takes.Reads as takes-reads
-use Rattle.wire.proofs.byte.Reads as byte-reads
 
--- src/amm_v4.rt:49:9
 byte-requires : tie.Need-byte-requires
-byte-requires c κs = search needs
+byte-requires c κs = tt
 
--- src/amm_v4.rt:50:8
 takes-requires : tie.Need-takes-requires
-takes-requires c κs = search needs
+takes-requires c κs = tt
 
--- src/amm_v4.rt:51:9
 short-requires : tie.Need-short-requires
-short-requires c κs = search needs
+short-requires c κs = tt
 
--- src/amm_v4.rt:51:9
 returns : tie.Need-returns
 unfolding ammV4
-returns c = simp (← c .before .before .before .byte .ensures, sym (c .before .before .takes .ensures) ∙ c .before .if1 .taken, c .short .ensures)
+returns c =
+    let c₂ = c .before .before in
+    simp (← c₂ .before .byte .ensures, ← c₂ .takes .ensures, c .before .if1 .taken, c .short .ensures)
 
--- src/amm_v4.rt:53:8
 takes-requires-2 : tie.Need-takes-requires-2
-takes-requires-2 c κs = search needs
+takes-requires-2 c κs = tt
 
--- src/amm_v4.rt:54:9
 long-requires : tie.Need-long-requires
-long-requires c κs = search needs
+long-requires c κs = tt
 
--- src/amm_v4.rt:54:9
 returns-2 : tie.Need-returns-2
 unfolding ammV4
-returns-2 c = simp (← c .before .before .before .before .before .byte .ensures, sym (c .before .before .before .before .takes .ensures) ∙ c .before .before .before .if1 .left, sym (c .before .before .takes2 .ensures) ∙ c .before .if2 .taken, c .long .ensures)
+returns-2 c =
+    let c₂ = c .before .before in
+    let c₄ = c₂ .before .before in
+    simp (← c₄ .before .byte .ensures, ← c₄ .takes .ensures, c₂ .before .if1 .left, ← c₂ .takes2 .ensures, c .before .if2 .taken, c .long .ensures)
 
--- src/amm_v4.rt:46:1
 returns-3 : tie.Need-returns-3
 unfolding ammV4
-returns-3 c = simp (← c .before .before .before .before .byte .ensures, sym (c .before .before .before .takes .ensures) ∙ c .before .before .if1 .left, sym (c .before .takes2 .ensures) ∙ c .if2 .left)
+returns-3 c =
+    let c₂ = c .before .before in
+    let c₄ = c₂ .before .before in
+    simp (← c₄ .byte .ensures, ← c₂ .before .takes .ensures, c₂ .if1 .left, ← c .before .takes2 .ensures, c .if2 .left)
 
 pub leg-spec : {M : Type 1} → statement M
 leg-spec =

@@ -1,65 +1,78 @@
+-- The tests are the definition's in its order; behind them both numbers are there, and `draft` is its leg.
+-- Assumes nothing.
 use Rattle.swaps.specs.Clmm.{clmm}
 use borrow.Author.Tests.{le-leb, lt-leb, not-true, not-false}
-use mathlib.Core.Path.{sym, _∙_}
-use borrow.Author.Needs.{needs}
 use Rattle.swaps.proofs.clmm.leg.Statement.{statement}
 use Rattle.swaps.proofs.clmm.leg.Tie as tie
-use Rattle.swaps.proofs.clmm.leg.Reads as reads
-use Rattle.swaps.proofs.clmm.leg.Lts as lts
-use Rattle.swaps.proofs.clmm.draft.Reads as draft-reads
-use Rattle.swaps.proofs.clmm.takes.Reads as takes-reads
-use Rattle.swaps.proofs.fields.flag.Reads as flag-reads
-use Rattle.swaps.proofs.fields.is.Reads as is-reads
-use Rattle.swaps.proofs.fields.is_flag.Reads as is-flag-reads
-use Rattle.wire.proofs.u64_at.Reads as u64-at-reads
 
--- src/clmm.rt:33:9
 takes-requires : tie.Need-takes-requires
-takes-requires c κs = search needs
+takes-requires c κs = tt
 
--- src/clmm.rt:34:9
 returns : tie.Need-returns
 unfolding clmm
-returns c = simp (sym (c .before .takes .ensures) ∙ not-true _ (c .if1 .taken))
+returns c = simp (← c .before .takes .ensures, not-true (c .before .takes .result) (c .if1 .taken))
 
--- src/clmm.rt:36:9
 is-flag-requires : tie.Need-is-flag-requires
-is-flag-requires c κs = search needs
+is-flag-requires c κs = tt
 
--- src/clmm.rt:37:9
 returns-2 : tie.Need-returns-2
 unfolding clmm
-returns-2 c = simp (sym (c .before .before .before .takes .ensures) ∙ not-false _ (c .before .before .if1 .left), sym (c .before .is-flag .ensures) ∙ not-true _ (c .if2 .taken))
+returns-2 c =
+    let c₂ = c .before .before in
+    simp (
+      ← c₂ .before .takes .ensures,
+      not-false (c₂ .before .takes .result) (c₂ .if1 .left),
+      ← c .before .is-flag .ensures,
+      not-true (c .before .is-flag .result) (c .if2 .taken),
+    )
 
--- src/clmm.rt:40:9
 returns-3 : tie.Need-returns-3
 unfolding clmm
-returns-3 c = simp (sym (c .before .before .before .before .takes .ensures) ∙ not-false _ (c .before .before .before .if1 .left), sym (c .before .before .is-flag .ensures) ∙ not-false _ (c .before .if2 .left), lt-leb _ _ (c .if3 .taken))
+returns-3 c =
+    let c₂ = c .before .before in
+    let c₄ = c₂ .before .before in
+    simp (
+      ← c₄ .takes .ensures,
+      not-false (c₄ .takes .result) (c₂ .before .if1 .left),
+      ← c₂ .is-flag .ensures,
+      not-false (c₂ .is-flag .result) (c .before .if2 .left),
+      lt-leb _ _ (c .if3 .taken),
+    )
 
--- src/clmm.rt:42:22
 is-requires : tie.Need-is-requires
-is-requires c κs = search needs
+is-requires c κs = tt
 
--- src/clmm.rt:42:41
 flag-requires : tie.Need-flag-requires
-flag-requires c κs = search needs
+flag-requires c κs = tt
 
--- src/clmm.rt:42:57
 u64-at-requires : tie.Need-u64-at-requires
-u64-at-requires c κs = search needs
+u64-at-requires c κs = tt
 
--- src/clmm.rt:42:80
 u64-at-requires-2 : tie.Need-u64-at-requires-2
-u64-at-requires-2 c κs = search needs
+u64-at-requires-2 c κs = tt
 
--- src/clmm.rt:42:16
 draft-requires : tie.Need-draft-requires
-draft-requires c κs = search needs
+draft-requires c κs = tt
 
--- src/clmm.rt:30:1
 returns-4 : tie.Need-returns-4
 unfolding clmm
-returns-4 c = simp (sym (c .before .before .before .before .before .before .before .before .before .takes .ensures) ∙ not-false _ (c .before .before .before .before .before .before .before .before .if1 .left), sym (c .before .before .before .before .before .before .before .is-flag .ensures) ∙ not-false _ (c .before .before .before .before .before .before .if2 .left), le-leb _ _ (c .before .before .before .before .before .if3 .left), c .draft .ensures, c .before .u64-at2 .ensures, c .before .before .u64-at .ensures, c .before .before .before .flag .ensures, c .before .before .before .before .is .ensures)
+returns-4 c =
+    let c₂ = c .before .before in
+    let c₄ = c₂ .before .before in
+    let c₆ = c₄ .before .before in
+    let c₈ = c₆ .before .before in
+    simp (
+      ← c₈ .before .takes .ensures,
+      not-false (c₈ .before .takes .result) (c₈ .if1 .left),
+      ← c₆ .before .is-flag .ensures,
+      not-false (c₆ .before .is-flag .result) (c₆ .if2 .left),
+      le-leb _ _ (c₄ .before .if3 .left),
+      c .draft .ensures,
+      c .before .u64-at2 .ensures,
+      c₂ .u64-at .ensures,
+      c₂ .before .flag .ensures,
+      c₄ .is .ensures,
+    )
 
 pub leg-spec : {M : Type 1} → statement M
 leg-spec =

@@ -1,60 +1,77 @@
+-- The layout and then the two kinds of discriminator are tested in the definition's order, and either draft is its leg.
+-- Assumes nothing.
 use Rattle.swaps.specs.Dlmm.{dlmm}
 use borrow.Author.Tests.{not-false, not-true}
-use mathlib.Core.Path.{sym, _∙_}
-use borrow.Author.Needs.{needs}
 use Rattle.swaps.proofs.dlmm.leg.Statement.{statement}
 use Rattle.swaps.proofs.dlmm.leg.Tie as tie
-use Rattle.swaps.proofs.dlmm.leg.Reads as reads
-use Rattle.swaps.proofs.dlmm.leg.Lts as lts
-use Rattle.swaps.proofs.dlmm.draft.Reads as draft-reads
-use Rattle.swaps.proofs.dlmm.layout.Reads as layout-reads
-use Rattle.swaps.proofs.fields.is_either.Reads as is-either-reads
 
--- src/dlmm.rt:96:9
-layout-requires : tie.Need-layout-requires
-layout-requires c κs = search needs
+swap-layout-requires : tie.Need-swap-layout-requires
+swap-layout-requires c κs = tt
 
--- src/dlmm.rt:97:9
 returns : tie.Need-returns
 unfolding dlmm
-returns c = simp (sym (c .before .layout .ensures) ∙ not-true _ (c .if1 .taken))
+returns c = simp (← c .before .swap-layout .ensures, not-true (c .before .swap-layout .result) (c .if1 .taken))
 
--- src/dlmm.rt:99:8
 is-either-requires : tie.Need-is-either-requires
-is-either-requires c κs = search needs
+is-either-requires c κs = tt
 
--- src/dlmm.rt:100:9
 draft-requires : tie.Need-draft-requires
-draft-requires c κs = search needs
+draft-requires c κs = tt
 
--- src/dlmm.rt:100:9
 returns-2 : tie.Need-returns-2
 unfolding dlmm
-returns-2 c = simp (sym (c .before .before .before .before .layout .ensures) ∙ not-false _ (c .before .before .before .if1 .left), sym (c .before .before .is-either .ensures) ∙ c .before .if2 .taken, c .draft .ensures)
+returns-2 c =
+    let c₂ = c .before .before in
+    let c₄ = c₂ .before .before in
+    simp (
+      ← c₄ .swap-layout .ensures,
+      not-false (c₄ .swap-layout .result) (c₂ .before .if1 .left),
+      ← c₂ .is-either .ensures,
+      c .before .if2 .taken,
+      c .draft .ensures,
+    )
 
--- src/dlmm.rt:102:8
 is-either-requires-2 : tie.Need-is-either-requires-2
-is-either-requires-2 c κs = search needs
+is-either-requires-2 c κs = tt
 
--- src/dlmm.rt:103:9
 draft-requires-2 : tie.Need-draft-requires-2
-draft-requires-2 c κs = search needs
+draft-requires-2 c κs = tt
 
--- src/dlmm.rt:103:9
 returns-3 : tie.Need-returns-3
 unfolding dlmm
-returns-3 c = simp (sym (c .before .before .before .before .before .before .layout .ensures) ∙ not-false _ (c .before .before .before .before .before .if1 .left), sym (c .before .before .before .before .is-either .ensures) ∙ c .before .before .before .if2 .left, sym (c .before .before .is-either2 .ensures) ∙ c .before .if3 .taken, c .draft2 .ensures)
+returns-3 c =
+    let c₂ = c .before .before in
+    let c₄ = c₂ .before .before in
+    let c₆ = c₄ .before .before in
+    simp (
+      ← c₆ .swap-layout .ensures,
+      not-false (c₆ .swap-layout .result) (c₄ .before .if1 .left),
+      ← c₄ .is-either .ensures,
+      c₂ .before .if2 .left,
+      ← c₂ .is-either2 .ensures,
+      c .before .if3 .taken,
+      c .draft2 .ensures,
+    )
 
--- src/dlmm.rt:93:1
 returns-4 : tie.Need-returns-4
 unfolding dlmm
-returns-4 c = simp (sym (c .before .before .before .before .before .layout .ensures) ∙ not-false _ (c .before .before .before .before .if1 .left), sym (c .before .before .before .is-either .ensures) ∙ c .before .before .if2 .left, sym (c .before .is-either2 .ensures) ∙ c .if3 .left)
+returns-4 c =
+    let c₂ = c .before .before in
+    let c₄ = c₂ .before .before in
+    simp (
+      ← c₄ .before .swap-layout .ensures,
+      not-false (c₄ .before .swap-layout .result) (c₄ .if1 .left),
+      ← c₂ .before .is-either .ensures,
+      c₂ .if2 .left,
+      ← c .before .is-either2 .ensures,
+      c .if3 .left,
+    )
 
 pub leg-spec : {M : Type 1} → statement M
 leg-spec =
     tie.close
     (tie.spec
-    layout-requires
+    swap-layout-requires
     returns
     is-either-requires
     draft-requires

@@ -1,23 +1,17 @@
-use borrow.Author.Needs.{needs}
+-- Each branch hands `pairing` the pair in the order that the definition's `cond` chooses.
+-- Assumes nothing.
 use Rattle.swaps.proofs.draft.pair_by.Statement.{statement}
 use Rattle.swaps.proofs.draft.pair_by.Tie as tie
-use Rattle.swaps.proofs.draft.pair_by.Reads as reads
-use Rattle.swaps.proofs.draft.pair_by.Lts as lts
-use Rattle.swaps.proofs.draft.pairing.Reads as pairing-reads
 
--- src/draft.rt:61:15
 pairing-requires : tie.Need-pairing-requires
-pairing-requires c κs = search needs
+pairing-requires c κs = tt
 
--- src/draft.rt:61:41
 pairing-requires-2 : tie.Need-pairing-requires-2
-pairing-requires-2 c κs = search needs
+pairing-requires-2 c κs = tt
 
--- src/draft.rt:58:1
 returns : tie.Need-returns
 returns c = simp (c .pairing .ensures, c .before .if1 .taken)
 
--- src/draft.rt:58:1
 returns-2 : tie.Need-returns-2
 returns-2 c = simp (c .pairing2 .ensures, c .before .if1 .left)
 

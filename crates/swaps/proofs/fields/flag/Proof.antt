@@ -1,15 +1,11 @@
-use borrow.Author.Needs.{needs}
+-- `byte` reads what the definition reads, 0 past the end.
+-- Assumes nothing.
 use Rattle.swaps.proofs.fields.flag.Statement.{statement}
 use Rattle.swaps.proofs.fields.flag.Tie as tie
-use Rattle.swaps.proofs.fields.flag.Reads as reads
-use Rattle.swaps.proofs.fields.flag.Lts as lts
-use Rattle.wire.proofs.byte.Reads as byte-reads
 
--- src/fields.rt:34:5
 byte-requires : tie.Need-byte-requires
-byte-requires c κs = search needs
+byte-requires c κs = tt
 
--- src/fields.rt:31:1
 returns : tie.Need-returns
 returns c = rw (c .byte .ensures)
 

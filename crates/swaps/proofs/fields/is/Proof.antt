@@ -1,22 +1,17 @@
+-- Without eight bytes there is no discriminator; with them `u64_at` reads it as one number.
+-- Assumes nothing.
 use borrow.Author.Tests.{le-leb, lt-leb}
 use Rattle.swaps.specs.Data.{is}
-use borrow.Author.Needs.{needs}
 use Rattle.swaps.proofs.fields.is.Statement.{statement}
 use Rattle.swaps.proofs.fields.is.Tie as tie
-use Rattle.swaps.proofs.fields.is.Reads as reads
-use Rattle.swaps.proofs.fields.is.Lts as lts
-use Rattle.wire.proofs.u64_at.Reads as u64-at-reads
 
--- src/fields.rt:15:9
 returns : tie.Need-returns
 unfolding is
 returns c = simp (lt-leb _ _ (c .if1 .taken))
 
--- src/fields.rt:17:5
 u64-at-requires : tie.Need-u64-at-requires
-u64-at-requires c κs = search needs
+u64-at-requires c κs = tt
 
--- src/fields.rt:11:1
 returns-2 : tie.Need-returns-2
 unfolding is
 returns-2 c = simp (le-leb _ _ (c .before .if1 .left), c .u64-at .ensures)

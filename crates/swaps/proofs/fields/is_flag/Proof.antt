@@ -1,21 +1,18 @@
+-- The byte is read only where it is there, and compared as in the definition.
+-- Assumes nothing.
 use borrow.Author.Tests.{lt-ltb, le-ltb}
 use Rattle.swaps.specs.Data.{isFlag}
 use borrow.Author.Needs.{needs}
 use Rattle.swaps.proofs.fields.is_flag.Statement.{statement}
 use Rattle.swaps.proofs.fields.is_flag.Tie as tie
-use Rattle.swaps.proofs.fields.is_flag.Reads as reads
-use Rattle.swaps.proofs.fields.is_flag.Lts as lts
 
--- src/fields.rt:25:9
 returns : tie.Need-returns
 unfolding isFlag
 returns c = simp (le-ltb _ _ (c .if1 .taken))
 
--- src/fields.rt:27:5
 shared-slice-read-result : tie.Need-shared-slice-read-result
 shared-slice-read-result c = search needs
 
--- src/fields.rt:21:1
 returns-2 : tie.Need-returns-2
 unfolding isFlag
 returns-2 c = simp (lt-ltb _ _ (c .before .if1 .left))

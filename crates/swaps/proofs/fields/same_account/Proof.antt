@@ -1,33 +1,25 @@
+-- With 32 zeros for a stand-in `account` is the original's `account`, and `equal` compares the two keys.
+-- Assumes nothing.
 use Rattle.ids.specs.Keys.{zeroKey}
 use borrow.Author.Needs.{needs}
 use Rattle.swaps.proofs.fields.same_account.Statement.{statement}
 use Rattle.swaps.proofs.fields.same_account.Tie as tie
-use Rattle.swaps.proofs.fields.same_account.Reads as reads
-use Rattle.swaps.proofs.fields.same_account.Lts as lts
-use Rattle.swaps.proofs.fields.account.Reads as account-reads
-use Rattle.wire.proofs.equal.Reads as equal-reads
 
--- src/fields.rt:60:31
 slice-aggregate-account : tie.Need-slice-aggregate-account
 slice-aggregate-account c = search needs
 
--- src/fields.rt:60:17
 account-requires : tie.Need-account-requires
-account-requires c κs = search needs
+account-requires c κs = tt
 
--- src/fields.rt:60:67
 slice-aggregate-account-2 : tie.Need-slice-aggregate-account-2
 slice-aggregate-account-2 c = search needs
 
--- src/fields.rt:60:53
 account-requires-2 : tie.Need-account-requires-2
-account-requires-2 c κs = search needs
+account-requires-2 c κs = tt
 
--- src/fields.rt:60:5
 equal-requires : tie.Need-equal-requires
-equal-requires c κs = search needs
+equal-requires c κs = tt
 
--- src/fields.rt:56:1
 returns : tie.Need-returns
 unfolding zeroKey
 returns c = rw (c .equal .ensures, c .before .account2 .ensures, c .before .before .before .account .ensures)

@@ -1,25 +1,19 @@
+-- With 32 zeros for a stand-in `account` is the original's `account`, and `mode` judges its key.
+-- Assumes nothing.
 use Rattle.ids.specs.Keys.{zeroKey}
 use borrow.Author.Needs.{needs}
 use Rattle.swaps.proofs.launchlab.mode_of.Statement.{statement}
 use Rattle.swaps.proofs.launchlab.mode_of.Tie as tie
-use Rattle.swaps.proofs.launchlab.mode_of.Reads as reads
-use Rattle.swaps.proofs.launchlab.mode_of.Lts as lts
-use Rattle.swaps.proofs.fields.account.Reads as account-reads
-use Rattle.swaps.proofs.launchlab.mode.Reads as mode-reads
 
--- src/launchlab.rt:42:31
 slice-aggregate-account : tie.Need-slice-aggregate-account
 slice-aggregate-account c = search needs
 
--- src/launchlab.rt:42:17
 account-requires : tie.Need-account-requires
-account-requires c κs = search needs
+account-requires c κs = tt
 
--- src/launchlab.rt:42:5
 mode-requires : tie.Need-mode-requires
-mode-requires c κs = search needs
+mode-requires c κs = tt
 
--- src/launchlab.rt:38:1
 returns : tie.Need-returns
 unfolding zeroKey
 returns c = rw (c .mode .ensures, c .before .account .ensures)

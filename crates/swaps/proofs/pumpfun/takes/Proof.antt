@@ -1,21 +1,17 @@
+-- A v2 form is known, so v3 is asked only where v2 fails; the floors are the definition's.
+-- Assumes nothing.
 use Rattle.swaps.proofs.pumpfun.takes.Statement.{statement}
 use Rattle.swaps.proofs.pumpfun.takes.Tie as tie
-use Rattle.swaps.proofs.pumpfun.takes.Reads as reads
-use Rattle.swaps.proofs.pumpfun.takes.Lts as lts
 
--- src/pumpfun.rt:42:13
 returns : tie.Need-returns
 returns c = simp (c .before .if1 .taken, c .if2 .taken)
 
--- src/pumpfun.rt:44:9
 returns-2 : tie.Need-returns-2
 returns-2 c = simp (c .before .if1 .taken, c .if2 .left)
 
--- src/pumpfun.rt:47:9
 returns-3 : tie.Need-returns-3
 returns-3 c = simp (c .before .if1 .left, c .if3 .taken)
 
--- src/pumpfun.rt:37:1
 returns-4 : tie.Need-returns-4
 returns-4 c = simp (c .before .if1 .left, c .if3 .left)
 

@@ -1,29 +1,22 @@
+-- With 32 zeros for a stand-in `account` is the original's `account`, and row 2 of the ids is wrapped SOL.
+-- Assumes nothing.
 use Rattle.ids.specs.Keys.{zeroKey}
-use Rattle.swaps.specs.PumpFun.{isWrapped}
 use borrow.Author.Needs.{needs}
 use Rattle.swaps.proofs.pumpfun.wrapped.Statement.{statement}
 use Rattle.swaps.proofs.pumpfun.wrapped.Tie as tie
-use Rattle.swaps.proofs.pumpfun.wrapped.Reads as reads
-use Rattle.swaps.proofs.pumpfun.wrapped.Lts as lts
-use Rattle.ids.proofs.is_id.Reads as is-id-reads
-use Rattle.swaps.proofs.fields.account.Reads as account-reads
 
--- src/pumpfun.rt:57:33
 slice-aggregate-account : tie.Need-slice-aggregate-account
 slice-aggregate-account c = search needs
 
--- src/pumpfun.rt:57:19
 account-requires : tie.Need-account-requires
-account-requires c κs = search needs
+account-requires c κs = tt
 
--- src/pumpfun.rt:57:5
-is-id-requires : tie.Need-is-id-requires
-is-id-requires c κs = search needs
+is-wrapped-sol-requires : tie.Need-is-wrapped-sol-requires
+is-wrapped-sol-requires c κs = tt
 
--- src/pumpfun.rt:53:1
 returns : tie.Need-returns
-unfolding zeroKey isWrapped
-returns c = rw (c .is-id .ensures, c .before .account .ensures)
+unfolding zeroKey
+returns c = rw (c .is-wrapped-sol .ensures, c .before .account .ensures)
 
 pub wrapped-spec : {M : Type 1} → statement M
-wrapped-spec = tie.close (tie.spec slice-aggregate-account account-requires is-id-requires returns)
+wrapped-spec = tie.close (tie.spec slice-aggregate-account account-requires is-wrapped-sol-requires returns)

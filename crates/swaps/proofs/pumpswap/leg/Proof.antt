@@ -1,72 +1,100 @@
+-- The count and then the three pairs of discriminators are tested in the definition's order, `BUY` the number that `u64_at` reads of the names.
+-- Assumes nothing.
 use Rattle.swaps.specs.PumpSwap.{pumpSwap}
 use borrow.Author.Tests.{not-false, not-true}
-use mathlib.Core.Path.{sym, _∙_}
-use borrow.Author.Needs.{needs}
 use Rattle.swaps.proofs.pumpswap.leg.Statement.{statement}
 use Rattle.swaps.proofs.pumpswap.leg.Tie as tie
-use Rattle.swaps.proofs.pumpswap.leg.Reads as reads
-use Rattle.swaps.proofs.pumpswap.leg.Lts as lts
-use Rattle.swaps.proofs.fields.is_either.Reads as is-either-reads
-use Rattle.swaps.proofs.pumpswap.draft.Reads as draft-reads
-use Rattle.swaps.proofs.pumpswap.takes.Reads as takes-reads
-use Rattle.wire.proofs.u64_at.Reads as u64-at-reads
 
--- src/pumpswap.rt:56:9
 takes-requires : tie.Need-takes-requires
-takes-requires c κs = search needs
+takes-requires c κs = tt
 
--- src/pumpswap.rt:57:9
 returns : tie.Need-returns
 unfolding pumpSwap
-returns c = simp (sym (c .before .takes .ensures) ∙ not-true _ (c .if1 .taken))
+returns c = simp (← c .before .takes .ensures, not-true (c .before .takes .result) (c .if1 .taken))
 
--- src/pumpswap.rt:59:8
 is-either-requires : tie.Need-is-either-requires
-is-either-requires c κs = search needs
+is-either-requires c κs = tt
 
--- src/pumpswap.rt:60:9
 draft-requires : tie.Need-draft-requires
-draft-requires c κs = search needs
+draft-requires c κs = tt
 
--- src/pumpswap.rt:60:9
 returns-2 : tie.Need-returns-2
 unfolding pumpSwap
-returns-2 c = simp (sym (c .before .before .before .before .takes .ensures) ∙ not-false _ (c .before .before .before .if1 .left), sym (c .before .before .is-either .ensures) ∙ c .before .if2 .taken, c .draft .ensures)
+returns-2 c =
+    let c₂ = c .before .before in
+    let c₄ = c₂ .before .before in
+    simp (← c₄ .takes .ensures, not-false (c₄ .takes .result) (c₂ .before .if1 .left), ← c₂ .is-either .ensures, c .before .if2 .taken, c .draft .ensures)
 
--- src/pumpswap.rt:62:24
 u64-at-requires : tie.Need-u64-at-requires
-u64-at-requires c κs = search needs
+u64-at-requires c κs = tt
 
--- src/pumpswap.rt:62:8
 is-either-requires-2 : tie.Need-is-either-requires-2
-is-either-requires-2 c κs = search needs
+is-either-requires-2 c κs = tt
 
--- src/pumpswap.rt:63:9
 draft-requires-2 : tie.Need-draft-requires-2
-draft-requires-2 c κs = search needs
+draft-requires-2 c κs = tt
 
--- src/pumpswap.rt:63:9
 returns-3 : tie.Need-returns-3
 unfolding pumpSwap
-returns-3 c = simp (← c .before .before .before .u64-at .ensures, sym (c .before .before .before .before .before .before .before .takes .ensures) ∙ not-false _ (c .before .before .before .before .before .before .if1 .left), sym (c .before .before .before .before .before .is-either .ensures) ∙ c .before .before .before .before .if2 .left, sym (c .before .before .is-either2 .ensures) ∙ c .before .if3 .taken, c .draft2 .ensures)
+returns-3 c =
+    let c₂ = c .before .before in
+    let c₄ = c₂ .before .before in
+    let c₆ = c₄ .before .before in
+    simp (
+      ← c₂ .before .u64-at .ensures,
+      ← c₆ .before .takes .ensures,
+      not-false (c₆ .before .takes .result) (c₆ .if1 .left),
+      ← c₄ .before .is-either .ensures,
+      c₄ .if2 .left,
+      ← c₂ .is-either2 .ensures,
+      c .before .if3 .taken,
+      c .draft2 .ensures,
+    )
 
--- src/pumpswap.rt:65:8
 is-either-requires-3 : tie.Need-is-either-requires-3
-is-either-requires-3 c κs = search needs
+is-either-requires-3 c κs = tt
 
--- src/pumpswap.rt:66:9
 draft-requires-3 : tie.Need-draft-requires-3
-draft-requires-3 c κs = search needs
+draft-requires-3 c κs = tt
 
--- src/pumpswap.rt:66:9
 returns-4 : tie.Need-returns-4
 unfolding pumpSwap
-returns-4 c = simp (← c .before .before .before .before .before .u64-at .ensures, sym (c .before .before .before .before .before .before .before .before .before .takes .ensures) ∙ not-false _ (c .before .before .before .before .before .before .before .before .if1 .left), sym (c .before .before .before .before .before .before .before .is-either .ensures) ∙ c .before .before .before .before .before .before .if2 .left, sym (c .before .before .before .before .is-either2 .ensures) ∙ c .before .before .before .if3 .left, sym (c .before .before .is-either3 .ensures) ∙ c .before .if4 .taken, c .draft3 .ensures)
+returns-4 c =
+    let c₂ = c .before .before in
+    let c₄ = c₂ .before .before in
+    let c₆ = c₄ .before .before in
+    let c₈ = c₆ .before .before in
+    simp (
+      ← c₄ .before .u64-at .ensures,
+      ← c₈ .before .takes .ensures,
+      not-false (c₈ .before .takes .result) (c₈ .if1 .left),
+      ← c₆ .before .is-either .ensures,
+      c₆ .if2 .left,
+      ← c₄ .is-either2 .ensures,
+      c₂ .before .if3 .left,
+      ← c₂ .is-either3 .ensures,
+      c .before .if4 .taken,
+      c .draft3 .ensures,
+    )
 
--- src/pumpswap.rt:53:1
 returns-5 : tie.Need-returns-5
 unfolding pumpSwap
-returns-5 c = simp (← c .before .before .before .before .u64-at .ensures, sym (c .before .before .before .before .before .before .before .before .takes .ensures) ∙ not-false _ (c .before .before .before .before .before .before .before .if1 .left), sym (c .before .before .before .before .before .before .is-either .ensures) ∙ c .before .before .before .before .before .if2 .left, sym (c .before .before .before .is-either2 .ensures) ∙ c .before .before .if3 .left, sym (c .before .is-either3 .ensures) ∙ c .if4 .left)
+returns-5 c =
+    let c₂ = c .before .before in
+    let c₄ = c₂ .before .before in
+    let c₆ = c₄ .before .before in
+    let c₈ = c₆ .before .before in
+    simp (
+      ← c₄ .u64-at .ensures,
+      ← c₈ .takes .ensures,
+      not-false (c₈ .takes .result) (c₆ .before .if1 .left),
+      ← c₆ .is-either .ensures,
+      c₄ .before .if2 .left,
+      ← c₂ .before .is-either2 .ensures,
+      c₂ .if3 .left,
+      ← c .before .is-either3 .ensures,
+      c .if4 .left,
+    )
 
 pub leg-spec : {M : Type 1} → statement M
 leg-spec =

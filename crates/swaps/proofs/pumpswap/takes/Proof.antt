@@ -1,14 +1,12 @@
+-- The second count is asked only where the first fails, as `||` asks.
+-- Assumes nothing.
 use borrow.Author.Tests.{le-leb, lt-leb}
 use Rattle.swaps.proofs.pumpswap.takes.Statement.{statement}
 use Rattle.swaps.proofs.pumpswap.takes.Tie as tie
-use Rattle.swaps.proofs.pumpswap.takes.Reads as reads
-use Rattle.swaps.proofs.pumpswap.takes.Lts as lts
 
--- src/pumpswap.rt:16:9
 returns : tie.Need-returns
 returns c = simp (le-leb _ _ (c .if1 .taken))
 
--- src/pumpswap.rt:12:1
 returns-2 : tie.Need-returns-2
 returns-2 c = simp (lt-leb _ _ (c .if1 .left))
 

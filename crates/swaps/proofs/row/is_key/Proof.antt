@@ -8,26 +8,18 @@ use Rattle.wire.proofs.Same.{same-ne}
 use borrow.Author.Needs.{needs}
 use Rattle.swaps.proofs.row.is_key.Statement.{statement}
 use Rattle.swaps.proofs.row.is_key.Tie as tie
-use Rattle.swaps.proofs.row.is_key.Reads as reads
-use Rattle.swaps.proofs.row.is_key.Lts as lts
-use Rattle.wire.proofs.equal.Reads as equal-reads
-use Rattle.wire.proofs.u64_at.Reads as u64-at-reads
 
--- src/row.rt:19:8
 u64-at-requires : tie.Need-u64-at-requires
-u64-at-requires c κs = search needs
+u64-at-requires c κs = tt
 
--- src/row.rt:20:9
 returns : tie.Need-returns
 returns c =
     let s = c .before .before .before .before in
     sym (same-ne (λ e. c .if1 .taken (c .before .u64-at .ensures ∙ (ap (λ (l : List ℕ). le 8 l 24) e ∙ sym (s .pre)))))
 
--- src/row.rt:22:5
 equal-requires : tie.Need-equal-requires
-equal-requires c κs = search needs
+equal-requires c κs = tt
 
--- src/row.rt:15:1
 returns-2 : tie.Need-returns-2
 returns-2 c = search needs
 
