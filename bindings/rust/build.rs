@@ -1,12 +1,12 @@
-//! Links libmbelaguy.a, which `rt staticlib mbelaguy` makes in the repository's target/staticlib.
+//! Links libmbelaguy.a, which `./library TARGET` makes in the repository's target/library/TARGET.
 //! MBELAGUY_LIB_DIR names another folder.
 
 use std::path::{Path, PathBuf};
 use std::{env, fs, process};
 
-const MAKE: &str =
-    "make it with `rt staticlib mbelaguy` in the repository's root, or name its folder \
-                    in MBELAGUY_LIB_DIR; without the feature `link` the crate needs no library";
+const MAKE: &str = "make it with `./library` in the repository's root (`./library --list` prints its \
+                    targets), or name its folder in MBELAGUY_LIB_DIR; without the feature `link` the \
+                    crate needs no library";
 
 fn main() {
     println!("cargo:rerun-if-env-changed=MBELAGUY_LIB_DIR");
@@ -29,8 +29,19 @@ fn folder() -> PathBuf {
         Some(folder) => PathBuf::from(folder),
         None => {
             let root = Path::new(env!("CARGO_MANIFEST_DIR")).ancestors().nth(2);
-            root.unwrap_or(Path::new("/")).join("target/staticlib")
+            root.unwrap_or(Path::new("/")).join("target/library").join(target())
         }
+    }
+}
+
+/// What `./library` calls the target that cargo builds for.
+fn target() -> String {
+    let of = |name: &str| env::var(format!("CARGO_CFG_TARGET_{name}")).unwrap_or_default();
+    match (of("ARCH").as_str(), of("OS").as_str(), of("ABI").as_str()) {
+        ("wasm32", _, _) => "wasm32".into(),
+        ("aarch64", "ios", "sim") => "arm64-ios-simulator".into(),
+        ("aarch64", "ios", _) => "arm64-ios".into(),
+        (machine, system, _) => format!("{machine}-{system}"),
     }
 }
 
