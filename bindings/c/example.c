@@ -6,6 +6,7 @@
 
 #include <inttypes.h>
 #include <stdio.h>
+#include <stdlib.h>
 #include <string.h>
 
 /* ------------------------------------------------------------- writing a pack */
@@ -183,9 +184,22 @@ static const char *short_key(const uint8_t *key)
     return text;
 }
 
-static const char *mint(const uint8_t *flag)
+/* The tables that are filled. */
+static uint8_t *mints, *invocations, *transfers, *legs, *natives;
+static mbelaguy_answer answer;
+
+static const char *const marks[] = {"recorded", "filled in", "in doubt"};
+
+/* The mint of an account beside an amount, and its mark in table 0: '-' where there is none. */
+static void print_marked(const uint8_t *account, const uint8_t *flag)
 {
-    return flag[0] ? short_key(flag + 1) : "-";
+    const char *mark = "-";
+    for (uint32_t k = 0; k < answer.mints; k++) {
+        const uint8_t *row = mints + k * MBELAGUY_MINT_ROW;
+        if (memcmp(row + MBELAGUY_MINT_ACCOUNT, account, 32) == 0)
+            mark = marks[row[MBELAGUY_MINT_MARK]];
+    }
+    printf(" mint %s %s", flag[0] ? short_key(flag + 1) : "-", mark);
 }
 
 /* A number, or '-' where there is none. */
@@ -199,7 +213,6 @@ static void print_optional(const char *name, int given, uint64_t value)
 
 static void print_mint(const uint8_t *row)
 {
-    static const char *const marks[] = {"recorded", "filled in", "in doubt"};
     printf("mint: account %s mint %s %s\n", short_key(row + MBELAGUY_MINT_ACCOUNT),
            short_key(row + MBELAGUY_MINT_MINT), marks[row[MBELAGUY_MINT_MARK]]);
 }
@@ -217,10 +230,10 @@ static void print_invocation(const uint8_t *row)
 
 static void print_transfer(const uint8_t *row)
 {
-    printf("transfer: invocation %" PRIu64 " from %s to %s mint %s amount %" PRIu64,
-           number(row + MBELAGUY_TRANSFER_INVOCATION, 4), short_key(row + MBELAGUY_TRANSFER_SOURCE),
-           short_key(row + MBELAGUY_TRANSFER_DESTINATION), mint(row + MBELAGUY_TRANSFER_MINT_FLAG),
-           number(row + MBELAGUY_TRANSFER_AMOUNT, 8));
+    printf("transfer: invocation %" PRIu64 " from %s to %s", number(row + MBELAGUY_TRANSFER_INVOCATION, 4),
+           short_key(row + MBELAGUY_TRANSFER_SOURCE), short_key(row + MBELAGUY_TRANSFER_DESTINATION));
+    print_marked(row + MBELAGUY_TRANSFER_SOURCE, row + MBELAGUY_TRANSFER_MINT_FLAG);
+    printf(" amount %" PRIu64, number(row + MBELAGUY_TRANSFER_AMOUNT, 8));
     print_optional("fee", row[MBELAGUY_TRANSFER_FEE_FLAG], number(row + MBELAGUY_TRANSFER_FEE, 8));
     printf("\n");
 }
@@ -229,13 +242,14 @@ static void print_leg(const uint8_t *row)
 {
     static const char *const protocols[] = {
         "", "PumpSwap", "LaunchLab", "CPMM", "AMM V4", "CLMM", "Orca", "DLMM", "PumpFun"};
-    printf("leg: invocation %" PRIu64 " %s pool %s trader %s in %s %s out %s %s %s %" PRIu64 " threshold %" PRIu64 "\n",
-           number(row + MBELAGUY_LEG_INVOCATION, 4), protocols[row[MBELAGUY_LEG_PROTOCOL]],
-           short_key(row + MBELAGUY_LEG_POOL), short_key(row + MBELAGUY_LEG_TRADER),
-           short_key(row + MBELAGUY_LEG_INPUT), mint(row + MBELAGUY_LEG_INPUT_MINT_FLAG),
-           short_key(row + MBELAGUY_LEG_OUTPUT), mint(row + MBELAGUY_LEG_OUTPUT_MINT_FLAG),
-           row[MBELAGUY_LEG_EXACT_IN] ? "exact in" : "exact out", number(row + MBELAGUY_LEG_AMOUNT, 8),
-           number(row + MBELAGUY_LEG_THRESHOLD, 8));
+    printf("leg: invocation %" PRIu64 " %s pool %s trader %s in %s", number(row + MBELAGUY_LEG_INVOCATION, 4),
+           protocols[row[MBELAGUY_LEG_PROTOCOL]], short_key(row + MBELAGUY_LEG_POOL),
+           short_key(row + MBELAGUY_LEG_TRADER), short_key(row + MBELAGUY_LEG_INPUT));
+    print_marked(row + MBELAGUY_LEG_INPUT, row + MBELAGUY_LEG_INPUT_MINT_FLAG);
+    printf(" out %s", short_key(row + MBELAGUY_LEG_OUTPUT));
+    print_marked(row + MBELAGUY_LEG_OUTPUT, row + MBELAGUY_LEG_OUTPUT_MINT_FLAG);
+    printf(" %s %" PRIu64 " threshold %" PRIu64 "\n", row[MBELAGUY_LEG_EXACT_IN] ? "exact in" : "exact out",
+           number(row + MBELAGUY_LEG_AMOUNT, 8), number(row + MBELAGUY_LEG_THRESHOLD, 8));
 }
 
 static void print_native(const uint8_t *row)
@@ -262,14 +276,20 @@ static void print_rows(const uint8_t *table, uint32_t count, size_t width, void 
         print(table + k * width);
 }
 
+/* Memory for a table, which the call clears. */
+static uint8_t *lend(size_t bytes)
+{
+    uint8_t *table = malloc(bytes);
+    if (table == NULL && bytes > 0) {
+        fprintf(stderr, "no memory\n");
+        exit(1);
+    }
+    return table;
+}
+
 int main(void)
 {
     static const uint8_t names[MBELAGUY_NAMES_BYTES] = MBELAGUY_NAMES_ORIGINAL;
-    static uint8_t mints[MBELAGUY_MAX_KEYS * MBELAGUY_MINT_ROW];
-    static uint8_t invocations[MBELAGUY_MAX_INVOCATIONS * MBELAGUY_INVOCATION_ROW];
-    static uint8_t transfers[MBELAGUY_MAX_INVOCATIONS * MBELAGUY_TRANSFER_ROW];
-    static uint8_t legs[MBELAGUY_MAX_INVOCATIONS * MBELAGUY_LEG_ROW];
-    static uint8_t natives[MBELAGUY_MAX_INVOCATIONS * MBELAGUY_NATIVE_ROW];
 
     write_pack();
     if (length > sizeof pack) {
@@ -278,11 +298,24 @@ int main(void)
     }
     printf("pack: %zu bytes\n", length);
 
-    mbelaguy_answer answer = mbelaguy_route(
-        names, sizeof names, pack, length, mints, sizeof mints, invocations, sizeof invocations,
-        transfers, sizeof transfers, legs, sizeof legs, natives, sizeof natives);
+    mbelaguy_rows rows = mbelaguy_room(pack, length);
+    size_t mint_bytes = (size_t)rows.mints * MBELAGUY_MINT_ROW;
+    size_t invocation_bytes = (size_t)rows.invocations * MBELAGUY_INVOCATION_ROW;
+    size_t transfer_bytes = (size_t)rows.transfers * MBELAGUY_TRANSFER_ROW;
+    size_t leg_bytes = (size_t)rows.legs * MBELAGUY_LEG_ROW;
+    size_t native_bytes = (size_t)rows.natives * MBELAGUY_NATIVE_ROW;
+    mints = lend(mint_bytes);
+    invocations = lend(invocation_bytes);
+    transfers = lend(transfer_bytes);
+    legs = lend(leg_bytes);
+    natives = lend(native_bytes);
+
+    answer = mbelaguy_route(
+        names, sizeof names, pack, length, mints, mint_bytes, invocations, invocation_bytes,
+        transfers, transfer_bytes, legs, leg_bytes, natives, native_bytes);
     if (answer.number != MBELAGUY_ACCEPTED) {
-        fprintf(stderr, "refusal %" PRIu32 ", place %" PRIu32 "\n", answer.number, answer.place);
+        fprintf(stderr, "refusal %" PRIu32 ", place %" PRIu32 ": %s\n", answer.number, answer.place,
+                mbelaguy_refusal(answer.number, answer.place));
         return 1;
     }
     printf("passes %" PRIu32 ", tests %" PRIu32 "\n", answer.passes, answer.tests);
@@ -292,5 +325,11 @@ int main(void)
     print_rows(transfers, answer.transfers, MBELAGUY_TRANSFER_ROW, print_transfer);
     print_rows(legs, answer.legs, MBELAGUY_LEG_ROW, print_leg);
     print_rows(natives, answer.natives, MBELAGUY_NATIVE_ROW, print_native);
+
+    free(mints);
+    free(invocations);
+    free(transfers);
+    free(legs);
+    free(natives);
     return 0;
 }

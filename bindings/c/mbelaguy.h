@@ -5,8 +5,12 @@
  * little-endian, offsets count from the start of the row or thing described, a key is 32 bytes.
  * docs/FORMAT.md says the same at more length.
  *
- * Link libmbelaguy.a, which `rt staticlib mbelaguy` makes. It allocates nothing and keeps nothing
- * between calls, so that several threads may call it at once.
+ * Link libmbelaguy.a, which `./library TARGET` makes. It allocates nothing and keeps nothing between
+ * calls, so that several threads may call it at once.
+ *
+ * mbelaguy.wasm has the same functions for JavaScript. Pointers and lengths are plain numbers: a
+ * pointer is a place in the exported `memory`, which is the caller's from `__heap_base` on, and where
+ * a function answers with a struct, the place for it comes before the other arguments.
  */
 #ifndef MBELAGUY_H
 #define MBELAGUY_H
@@ -17,6 +21,17 @@
 #ifdef __cplusplus
 extern "C" {
 #endif
+
+/* --------------------------------------------------------------- the version */
+
+#define MBELAGUY_VERSION "0.1.0"
+#define MBELAGUY_VERSION_NUMBER 256 /* 65536 * first + 256 * second + third */
+
+/* MBELAGUY_VERSION_NUMBER of the library that is linked. */
+uint32_t mbelaguy_version(void);
+
+/* A call takes less stack than this, as measured. A second thread of a tablet's app has 524288 bytes. */
+#define MBELAGUY_STACK 81920
 
 /* ------------------------------------------------------------------ the call */
 
@@ -35,7 +50,7 @@ typedef struct mbelaguy_answer {
 
 /*
  * Fills five tables from a pack. Each pointer is followed by the number of its bytes, which may be
- * any; no pointer is null, also where that number is 0, and no table overlaps anything else. Whatever
+ * any; where that number is 0 the pointer may be null. No table overlaps anything else. Whatever
  * the bytes are, there is an answer. Names and pack stay as they are. After a success all bytes behind
  * the last used row of a table are 0; after a refusal all bytes of all tables are.
  */
@@ -47,6 +62,24 @@ mbelaguy_answer mbelaguy_route(
     uint8_t *transfers, size_t transfers_length,
     uint8_t *legs, size_t legs_length,
     uint8_t *natives, size_t natives_length);
+
+/* Rows of each table, or a refusal and no rows. */
+typedef struct mbelaguy_rows {
+    uint32_t number;      /* 0, or MBELAGUY_REFUSED_MARK to MBELAGUY_REFUSED_INVOCATIONS */
+    uint32_t place;       /* the section that a refusal is about, else 0 */
+    uint32_t mints;       /* rows of table 0 */
+    uint32_t invocations; /* rows of table 1 */
+    uint32_t transfers;   /* rows of table 2 */
+    uint32_t legs;        /* rows of table 3 */
+    uint32_t natives;     /* rows of table 4 */
+} mbelaguy_rows;
+
+/*
+ * How many rows suffice for a pack, whatever the names are: with tables of so many rows
+ * mbelaguy_route never answers MBELAGUY_REFUSED_ROOM. The pack is walked once. A pack that is
+ * refused with good names gives that refusal.
+ */
+mbelaguy_rows mbelaguy_room(const uint8_t *pack, size_t pack_length);
 
 /* ------------------------------------------------------------------ refusals */
 
@@ -148,6 +181,11 @@ mbelaguy_answer mbelaguy_route(
 #define MBELAGUY_MARK_FILLED_IN 1    /* a plain transfer carried it here */
 #define MBELAGUY_MARK_IN_DOUBT 2     /* so too, but one joins the account to another final mint */
 
+/*
+ * A mint in tables 2 and 3 is as sure as its account's mark in table 0: the source's, the input's, the
+ * output's. A leg's mint whose account has no row in table 0 is the one that the swap itself names.
+ */
+
 /* Table 1, in execution order. The tables from here on never need more than MBELAGUY_MAX_INVOCATIONS. */
 #define MBELAGUY_INVOCATION_ROW 23
 #define MBELAGUY_INVOCATION_OUTER 0       /* u32: index of the outer instruction */
@@ -222,6 +260,52 @@ mbelaguy_answer mbelaguy_route(
 #define MBELAGUY_KIND_FUND 1
 #define MBELAGUY_KIND_SYNC 2
 #define MBELAGUY_KIND_CLOSE 3
+
+/* ---------------------------------------------------------- refusals in words */
+
+/* What an answer's number and place mean, for a person to read. */
+static inline const char *mbelaguy_refusal(uint32_t number, uint32_t place)
+{
+    switch (number) {
+    case MBELAGUY_ACCEPTED:
+        return "the pack is accepted";
+    case MBELAGUY_REFUSED_NAMES:
+        return "the names are not 88 bytes";
+    case MBELAGUY_REFUSED_MARK:
+        return "the pack is shorter than 24 or longer than 61,440 bytes, or does not end in RTP1";
+    case MBELAGUY_REFUSED_STARTS:
+        return "the sections do not start at 0, one after the other, before the trailer";
+    case MBELAGUY_REFUSED_SECTION:
+        switch (place) {
+        case MBELAGUY_SECTION_KEYS:
+            return "it ends inside a row, or a flag is neither 0 nor 1";
+        case MBELAGUY_SECTION_BALANCES:
+        case MBELAGUY_SECTION_POOLS:
+            return "it ends inside a row";
+        case MBELAGUY_SECTION_OUTER:
+            return "it ends inside an instruction";
+        case MBELAGUY_SECTION_INNER:
+            return "it ends inside a group or an instruction, a flag is neither 0 nor 1, or a height "
+                   "stands beside flag 0";
+        default:
+            break;
+        }
+        break;
+    case MBELAGUY_REFUSED_KEYS:
+        return "there are more than 256 keys";
+    case MBELAGUY_REFUSED_INVOCATIONS:
+        return "there are more than 1,024 invocations";
+    case MBELAGUY_REFUSED_PASSES:
+        return "there would be more than 512 passes over the plain transfers";
+    case MBELAGUY_REFUSED_ROOM:
+        if (place <= MBELAGUY_TABLE_NATIVES)
+            return "it has fewer whole rows than are needed";
+        break;
+    default:
+        break;
+    }
+    return "not known here; the library is of another release";
+}
 
 #ifdef __cplusplus
 }

@@ -2,7 +2,7 @@
 //! of it for a coin, and closes the account. c/example.c does the same in C and prints the same.
 
 use mbelaguy::pack::{Balance, Group, Inner, Instruction, KeyRow, Pack};
-use mbelaguy::rows::{Action, Invocation, Leg, MintRow, Native, Transfer};
+use mbelaguy::rows::{Action, Invocation, Leg, Mint, MintRow, Native, Transfer};
 use mbelaguy::{base58, ids, route, Key, Names, Tables};
 use std::error::Error;
 
@@ -23,7 +23,7 @@ fn main() -> Result<(), Box<dyn Error>> {
     let pack = pack().write()?;
     println!("pack: {} bytes", pack.len());
 
-    let mut tables = Tables::full();
+    let mut tables = Tables::for_pack(&pack);
     let answer = route(&Names::ORIGINAL.bytes(), &pack, &mut tables)?;
     println!("passes {}, tests {}", answer.passes, answer.tests);
 
@@ -106,7 +106,7 @@ fn print_transfer(row: Transfer) {
 
 fn print_leg(row: Leg) {
     println!(
-        "leg: invocation {} {} pool {} trader {} in {} {} out {} {} {} {} threshold {}",
+        "leg: invocation {} {} pool {} trader {} in {} mint {} out {} mint {} {} {} threshold {}",
         row.invocation,
         row.protocol,
         short(&row.pool),
@@ -132,8 +132,11 @@ fn print_native(row: Native) {
     }
 }
 
-fn mint(key: Option<Key>) -> String {
-    key.map_or("-".to_string(), |key| short(&key))
+/// A mint and its mark, or '-' where there is none.
+fn mint(mint: Mint) -> String {
+    let key = mint.key().map_or("-".to_string(), |key| short(&key));
+    let mark = mint.mark().map_or("-".to_string(), |mark| mark.to_string());
+    format!("{key} {mark}")
 }
 
 fn short(key: &Key) -> String {

@@ -3,10 +3,21 @@
 use crate::Refusal;
 
 /// Number 0 and counts, or a refusal's number and place with all counts 0.
+///
+/// ```
+/// use mbelaguy::{Answer, Refusal, Table};
+///
+/// let answer = Answer { number: 8, place: 2, ..Answer::default() };
+/// assert_eq!(answer.refusal(), Some(Refusal::Room(Table::Transfers)));
+/// assert_eq!(Answer::refused(Refusal::Room(Table::Transfers)), answer);
+/// assert_eq!(Answer::default().refusal(), None);
+/// ```
 #[repr(C)]
 #[derive(Clone, Copy, Debug, Default, PartialEq, Eq)]
 pub struct Answer {
+    /// 0, or the refusal's number.
     pub number: u32,
+    /// The section or table that a refusal is about, else 0.
     pub place: u32,
     /// Rows of tables 0 to 4.
     pub counts: [u32; 5],

@@ -1,6 +1,7 @@
 //! Base58 of 32 bytes, both ways. Decoding is a constant function, so that keys can be constants.
 
 use crate::Key;
+use std::collections::BTreeMap;
 
 const ALPHABET: &[u8; 58] = b"123456789ABCDEFGHJKLMNPQRSTUVWXYZabcdefghijkmnopqrstuvwxyz";
 
@@ -12,6 +13,14 @@ const NONE: u8 = 255;
 const STEP: u64 = 58u64.pow(5);
 
 /// The 32 bytes of a text, if it is base58 of exactly 32 bytes.
+///
+/// ```
+/// use mbelaguy::base58::{decode, encode};
+///
+/// let text = "TokenkegQfeZyiNwAJbNbGKPFXCWuBvf9Ss623VQ5DA";
+/// assert_eq!(decode(text).map(|key| encode(&key)), Some(text.to_string()));
+/// assert_eq!(decode("no key"), None);
+/// ```
 pub const fn decode(text: &str) -> Option<Key> {
     let text = text.as_bytes();
     // The number so far, its highest 32 bits first.
@@ -82,10 +91,66 @@ pub fn encode(key: &Key) -> String {
         .collect()
 }
 
-/// The first and the last four letters of a key's text, enough to tell keys apart by eye.
+/// The first and the last four letters of a key's text. Two keys may look alike so: [`ShortForms`] do
+/// not.
 pub fn short(key: &Key) -> String {
-    let text = encode(key);
-    format!("{}..{}", &text[..4], &text[text.len() - 4..])
+    shortened(&encode(key), FEWEST)
+}
+
+/// Letters at each end of a short form, where so many tell the keys apart.
+const FEWEST: usize = 4;
+
+fn shortened(text: &str, letters: usize) -> String {
+    match text.len().checked_sub(letters) {
+        Some(end) if end > letters + 2 => format!("{}..{}", &text[..letters], &text[end..]),
+        _ => text.to_string(),
+    }
+}
+
+/// Short forms of some keys, with more letters at both ends where two of them would look alike.
+///
+/// ```
+/// use mbelaguy::base58::{decode, ShortForms};
+///
+/// let [one, other] = [
+///     "So11111111111111111111111111111111111111112",
+///     "So11111111111111111111111111111111111121112",
+/// ]
+/// .map(|text| decode(text).expect("a key"));
+/// let forms = ShortForms::of([one, other]);
+/// assert_eq!(forms.get(&one), "So111..11112");
+/// assert_eq!(forms.get(&other), "So111..21112");
+/// ```
+#[derive(Clone, Debug, Default, PartialEq, Eq)]
+pub struct ShortForms(BTreeMap<Key, String>);
+
+impl ShortForms {
+    /// The short forms of these keys.
+    pub fn of(keys: impl IntoIterator<Item = Key>) -> Self {
+        let mut alike: BTreeMap<Key, String> =
+            keys.into_iter().map(|key| (key, encode(&key))).collect();
+        let mut forms = BTreeMap::new();
+        // Keys that differ by fewer letters differ by more, so that only those alike are looked at again.
+        for letters in FEWEST.. {
+            let mut by_form: BTreeMap<String, Vec<(Key, String)>> = BTreeMap::new();
+            for (key, text) in alike {
+                by_form.entry(shortened(&text, letters)).or_default().push((key, text));
+            }
+            let (one, more): (Vec<_>, Vec<_>) =
+                by_form.into_iter().partition(|(_, keys)| keys.len() == 1);
+            forms.extend(one.into_iter().map(|(form, keys)| (keys[0].0, form)));
+            alike = more.into_iter().flat_map(|(_, keys)| keys).collect();
+            if alike.is_empty() {
+                break;
+            }
+        }
+        ShortForms(forms)
+    }
+
+    /// The short form of a key, or all of it where it was not among the keys.
+    pub fn get(&self, key: &Key) -> String {
+        self.0.get(key).cloned().unwrap_or_else(|| encode(key))
+    }
 }
 
 const fn digits() -> [u8; 256] {

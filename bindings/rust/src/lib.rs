@@ -3,12 +3,17 @@
 //! One transaction goes in as a *pack* ([`pack::Pack`], written from plain values), five tables come
 //! out: a mint for each token account, the invocations, the token transfers, the swap legs, and the
 //! actions on wrapped SOL. [`route`] fills them by the proved library; [`Tables`] holds them and
-//! reads them as typed rows. docs/FORMAT.md has all of it byte by byte.
+//! reads them as typed rows, each mint with its mark ([`rows::Mint`]). docs/FORMAT.md has all of it
+//! byte by byte.
 //!
 //! Whatever goes in, nothing here panics: what the library refuses is a [`Refusal`], what does not
 //! fit into a pack a [`pack::DoesNotFit`], bytes that are no table a [`BadTable`].
 //!
-//! Only [`route`] needs the static library. Without the feature `link` the rest stands by itself.
+//! Only [`route`] and [`room`] need the static library. Without the feature `link` the rest stands by itself.
+//!
+//! A port of `transaction_route.rs` of sol-parser-sdk, under the original's MIT licence: see NOTICE.
+
+#![deny(missing_docs)]
 
 mod answer;
 pub mod base58;
@@ -21,13 +26,17 @@ pub mod pack;
 mod refusal;
 pub mod rows;
 mod tables;
+mod version;
 
 pub use answer::Answer;
 #[cfg(feature = "link")]
-pub use library::{route, route_into};
+pub use library::{room, route, route_into};
 pub use names::Names;
 pub use refusal::{Refusal, Section, Table};
 pub use tables::{BadTable, Tables, MOST_ROWS, WIDTHS};
+#[cfg(feature = "link")]
+pub use version::version;
+pub use version::VERSION;
 
 /// A key, an account, a mint, a program: 32 bytes.
 pub type Key = [u8; 32];

@@ -4,6 +4,13 @@ use crate::base58::literal;
 use crate::Key;
 
 /// The values of the five names.
+///
+/// ```
+/// use mbelaguy::Names;
+///
+/// let names = Names { buy: *b"discrimi", ..Names::ORIGINAL };
+/// assert_eq!(names.bytes()[Names::BUY..][..8], *b"discrimi");
+/// ```
 #[derive(Clone, Copy, Debug, PartialEq, Eq)]
 pub struct Names {
     /// Discriminator of CPMM `swap_base_input`.
@@ -19,12 +26,17 @@ pub struct Names {
 }
 
 impl Names {
-    /// Where each name starts in the 88 bytes.
+    /// Where [`Self::swap_base_in`] starts in the bytes.
     pub const SWAP_BASE_IN: usize = 0;
+    /// Where [`Self::swap_base_out`] starts.
     pub const SWAP_BASE_OUT: usize = 8;
+    /// Where [`Self::buy`] starts.
     pub const BUY: usize = 16;
+    /// Where [`Self::standard`] starts.
     pub const STANDARD: usize = 24;
+    /// Where [`Self::reward`] starts.
     pub const REWARD: usize = 56;
+    /// How many bytes there are.
     pub const BYTES: usize = 88;
 
     /// The values that the original has.

@@ -4,6 +4,16 @@ use std::error::Error;
 use std::fmt;
 
 /// A refusal. Of those that apply, the one with the lowest number is given.
+///
+/// ```
+/// use mbelaguy::{Refusal, Section};
+///
+/// let refusal = Refusal::of(4, 2);
+/// assert_eq!(refusal, Refusal::Section(Section::Outer));
+/// assert_eq!(refusal.words(), "it ends inside an instruction");
+/// let text = "refusal 4, place 2 (section of outer instructions): it ends inside an instruction";
+/// assert_eq!(refusal.to_string(), text);
+/// ```
 #[derive(Clone, Copy, Debug, PartialEq, Eq)]
 pub enum Refusal {
     /// 1: the names are not 88 bytes.
@@ -24,34 +34,51 @@ pub enum Refusal {
     /// 8: the lowest table that has fewer whole rows than are needed.
     Room(Table),
     /// A number or place that this crate does not know: the library is of another release.
-    Unknown { number: u32, place: u32 },
+    Unknown {
+        /// The number.
+        number: u32,
+        /// The place.
+        place: u32,
+    },
 }
 
 /// A section of a pack.
 #[derive(Clone, Copy, Debug, PartialEq, Eq)]
 pub enum Section {
+    /// The account keys.
     Keys,
+    /// The token balances.
     Balances,
+    /// The transaction's own instructions.
     Outer,
+    /// Groups of the instructions that those called.
     Inner,
+    /// Graduated pools.
     Pools,
 }
 
 /// One of the five tables.
 #[derive(Clone, Copy, Debug, PartialEq, Eq)]
 pub enum Table {
+    /// A mint for each token account.
     Mints,
+    /// The invocations.
     Invocations,
+    /// The token transfers.
     Transfers,
+    /// The swap legs.
     Legs,
+    /// The actions on wrapped SOL.
     Natives,
 }
 
 impl Section {
+    /// The sections by their numbers.
     pub const ALL: [Self; 5] = [Self::Keys, Self::Balances, Self::Outer, Self::Inner, Self::Pools];
 }
 
 impl Table {
+    /// The tables by their numbers.
     pub const ALL: [Self; 5] =
         [Self::Mints, Self::Invocations, Self::Transfers, Self::Legs, Self::Natives];
 }
@@ -72,6 +99,7 @@ impl Refusal {
         }
     }
 
+    /// Its number.
     pub fn number(self) -> u32 {
         match self {
             Self::Names => 1,
@@ -86,6 +114,7 @@ impl Refusal {
         }
     }
 
+    /// The section or table that it is about, else 0.
     pub fn place(self) -> u32 {
         match self {
             Self::Section(section) => section as u32,
@@ -94,19 +123,10 @@ impl Refusal {
             _ => 0,
         }
     }
-}
 
-impl fmt::Display for Refusal {
-    fn fmt(&self, f: &mut fmt::Formatter<'_>) -> fmt::Result {
-        write!(f, "refusal {}", self.number())?;
+    /// What is wrong, in words; those that `mbelaguy_refusal` of the C header gives.
+    pub fn words(self) -> &'static str {
         match self {
-            Self::Section(section) => write!(f, ", section {} ({section})", *section as u32)?,
-            Self::Room(table) => write!(f, ", table {} ({table})", *table as u32)?,
-            Self::Unknown { place, .. } => write!(f, ", place {place}")?,
-            _ => {}
-        }
-        f.write_str(": ")?;
-        f.write_str(match self {
             Self::Names => "the names are not 88 bytes",
             Self::Mark => {
                 "the pack is shorter than 24 or longer than 61,440 bytes, or does not end in RTP1"
@@ -126,7 +146,19 @@ impl fmt::Display for Refusal {
             Self::Passes => "there would be more than 512 passes over the plain transfers",
             Self::Room(_) => "it has fewer whole rows than are needed",
             Self::Unknown { .. } => "not known here; the library is of another release",
-        })
+        }
+    }
+}
+
+impl fmt::Display for Refusal {
+    fn fmt(&self, f: &mut fmt::Formatter<'_>) -> fmt::Result {
+        write!(f, "refusal {}, place {}", self.number(), self.place())?;
+        match self {
+            Self::Section(section) => write!(f, " (section of {section})")?,
+            Self::Room(table) => write!(f, " (table of {table})")?,
+            _ => {}
+        }
+        write!(f, ": {}", self.words())
     }
 }
 

@@ -25,7 +25,10 @@ fn prints_the_same() {
 /// The compiled example, or none where `cc` is not installed.
 fn compile() -> Option<PathBuf> {
     let library = env::var_os("MBELAGUY_LIB_DIR").map_or_else(
-        || Path::new(env!("CARGO_MANIFEST_DIR")).join("../../target/staticlib"),
+        || {
+            let made = Path::new(env!("CARGO_MANIFEST_DIR")).join("../../target/library");
+            made.join(format!("{}-{}", env::consts::ARCH, env::consts::OS))
+        },
         PathBuf::from,
     );
     let program = Path::new(env!("CARGO_TARGET_TMPDIR")).join("example");

@@ -2,10 +2,11 @@
 
 use mbelaguy::pack::{self, Balance, Group, Inner, Instruction, KeyRow, Pack};
 use mbelaguy::rows::{
-    Action, Invocation, Leg, Mark, MintRow, Mode, Native, Protocol, Row, Transfer,
+    Action, Invocation, Lack, Leg, Mark, Mint, MintRow, Mode, Native, Protocol, Transfer,
 };
 use mbelaguy::{
-    Key, Names, Refusal, Section, Table, MAX_INVOCATIONS, MAX_KEYS, MAX_PASSES, WIDTHS,
+    ids, Answer, Key, Names, Refusal, Section, Table, Tables, MAX_INVOCATIONS, MAX_KEYS,
+    MAX_PASSES, WIDTHS,
 };
 use std::collections::BTreeMap;
 
@@ -168,12 +169,25 @@ const fn key(fill: u8) -> Key {
     [fill; 32]
 }
 
+/// Tables with at most one row each.
+fn tables(rows: [Vec<u8>; 5]) -> Tables {
+    let counts = rows.each_ref().map(|row| u32::from(!row.is_empty()));
+    let pack = Pack::default().write().unwrap();
+    Tables::read(&Answer { counts, ..Answer::default() }, rows, &pack).unwrap()
+}
+
+/// A row of table 0, in doubt.
+fn mint_row(account: Key, mint: Key) -> Vec<u8> {
+    let mark = [Mark::InDoubt as u8];
+    let fields: &[Field<'_>] = &[("ACCOUNT", &account), ("MINT", &mint), ("MARK", &mark)];
+    Header::read().row("MINT", fields)
+}
+
 #[test]
 fn mint_rows() {
-    let mark = [Mark::InDoubt as u8];
-    let fields: &[Field<'_>] = &[("ACCOUNT", &key(1)), ("MINT", &key(2)), ("MARK", &mark)];
+    let read = tables([mint_row(key(1), key(2)), vec![], vec![], vec![], vec![]]);
     let expected = MintRow { account: key(1), mint: key(2), mark: Mark::InDoubt };
-    assert_eq!(Row::read(&Header::read().row("MINT", fields)), Some(expected));
+    assert_eq!(read.mints().next(), Some(expected));
 }
 
 #[test]
@@ -203,7 +217,8 @@ fn invocation_rows() {
         own_transfer: false,
         leg: Some(0x1413_1211),
     };
-    assert_eq!(Row::read(&row), Some(expected));
+    let read = tables([vec![], row, vec![], vec![], vec![]]);
+    assert_eq!(read.invocations().next(), Some(expected));
 }
 
 #[test]
@@ -227,11 +242,12 @@ fn transfer_rows() {
         program: key(5),
         source: key(6),
         destination: key(7),
-        mint: Some(key(8)),
+        mint: Mint::Marked { key: key(8), mark: Mark::InDoubt },
         amount: 0x0a00_0000_0000_0009,
         fee: Some(0x0c00_0000_0000_000b),
     };
-    assert_eq!(Row::read(&row), Some(expected));
+    let read = tables([mint_row(key(6), key(8)), vec![], row, vec![], vec![]]);
+    assert_eq!(read.transfers().next(), Some(expected));
 }
 
 #[test]
@@ -265,15 +281,16 @@ fn leg_rows() {
         trader: key(7),
         input: key(8),
         output: key(9),
-        input_mint: Some(key(10)),
-        output_mint: Some(key(11)),
+        input_mint: Mint::Named { key: key(10), lack: Lack::NoEvidence },
+        output_mint: Mint::Marked { key: key(11), mark: Mark::InDoubt },
         exact_in: true,
         amount: 0x0d00_0000_0000_000c,
         threshold: 0x0f00_0000_0000_000e,
         mode: Some(Mode::Reward),
         graduated: true,
     };
-    assert_eq!(Row::read(&row), Some(expected));
+    let read = tables([mint_row(key(9), key(11)), vec![], vec![], row, vec![]]);
+    assert_eq!(read.legs().next(), Some(expected));
 }
 
 #[test]
@@ -296,7 +313,10 @@ fn native_rows() {
             ("ACCOUNT", &account),
         ];
         fields.extend(more);
-        let expected = Native { invocation: 0x0403_0201, account, action };
-        assert_eq!(Row::read(&header.row("NATIVE", &fields)), Some(expected), "{name}");
+        let mark = Mark::InDoubt;
+        let expected = Native { invocation: 0x0403_0201, account, mark, action };
+        let row = header.row("NATIVE", &fields);
+        let read = tables([mint_row(account, ids::WRAPPED_SOL), vec![], vec![], vec![], row]);
+        assert_eq!(read.natives().next(), Some(expected), "{name}");
     }
 }

@@ -1,7 +1,7 @@
 //! The call through the library: answers, refusals, tables of any size.
 
 use mbelaguy::pack::{Balance, Group, Inner, Instruction, KeyRow, Pack, MAX_BYTES};
-use mbelaguy::rows::Mark;
+use mbelaguy::rows::{Lack, Mark, Mint};
 use mbelaguy::{ids, route, route_into, Answer, Names, Refusal, Section, Table, Tables};
 
 /// A records a mint; a plain transfer carries it to B.
@@ -29,7 +29,23 @@ fn a_plain_transfer_fills_in_a_mint() {
     let mints: Vec<_> = tables.mints().map(|row| (row.account, row.mint, row.mark)).collect();
     assert_eq!(mints, [([1; 32], [9; 32], Mark::Recorded), ([2; 32], [9; 32], Mark::FilledIn)]);
     let transfer = tables.transfers().next().unwrap();
-    assert_eq!((transfer.amount, transfer.fee, transfer.mint), (7, Some(0), Some([9; 32])));
+    let mint = Mint::Marked { key: [9; 32], mark: Mark::Recorded };
+    assert_eq!((transfer.amount, transfer.fee, transfer.mint), (7, Some(0), mint));
+}
+
+#[test]
+fn contradictory_evidence_is_told_from_none() {
+    let mut tables = Tables::full();
+    let mut mint = |balances: &[(u32, u8)]| {
+        let balance = |&(account, mint)| Balance { account, mint: [mint; 32] };
+        let pack = Pack { balances: balances.iter().map(balance).collect(), ..transfer() };
+        route(&names(), &pack.write().unwrap(), &mut tables).unwrap();
+        tables.transfers().next().unwrap().mint
+    };
+    assert_eq!(mint(&[]), Mint::Unknown(Lack::NoEvidence));
+    assert_eq!(mint(&[(0, 9), (0, 8), (1, 9)]), Mint::Unknown(Lack::Contradictory));
+    assert_eq!(mint(&[(1, 9)]), Mint::Marked { key: [9; 32], mark: Mark::FilledIn });
+    assert_eq!(mint(&[(1, 9), (1, 8)]), Mint::Unknown(Lack::NoEvidence));
 }
 
 #[test]
@@ -85,6 +101,6 @@ fn tables_of_any_length() {
     for (table, used) in tables.iter().zip([130, 23, 150, 0, 0]) {
         assert!(table[used..].iter().all(|byte| *byte == 0));
     }
-    let kept = Tables::read(&answer, tables).unwrap();
+    let kept = Tables::read(&answer, tables, &pack).unwrap();
     assert_eq!(kept.mints().len(), 2);
 }

@@ -1,6 +1,7 @@
 //! What is written for a person: keys, marks and refusals.
 
 use mbelaguy::{base58, ids, Refusal, Section, Table};
+use std::collections::BTreeSet;
 
 #[test]
 fn base58_both_ways() {
@@ -10,6 +11,33 @@ fn base58_both_ways() {
     assert_eq!(base58::encode(&[0; 32]), "1".repeat(32));
     assert_eq!(base58::encode(&[255; 32]), "JEKNVnkbo3jma5nREBBJCDoXFVeKkD56V3xKrvRmWxFG");
     assert_eq!(base58::short(&ids::SPL_TOKEN), "Toke..Q5DA");
+}
+
+/// Keys whose texts begin and end alike, by ever more letters, beside one that is like none.
+#[test]
+fn short_forms_never_look_alike() {
+    let near = |at: usize| {
+        let mut key = [7; 32];
+        key[at] = 8;
+        key
+    };
+    let mut keys: Vec<_> = (0..32).map(near).collect();
+    keys.extend([[7; 32], [9; 32]]);
+    let forms = base58::ShortForms::of(keys.iter().copied().chain(keys.clone()));
+    let shown: BTreeSet<_> = keys.iter().map(|key| forms.get(key)).collect();
+    assert_eq!(shown.len(), keys.len());
+    assert_eq!(forms.get(&[9; 32]), base58::short(&[9; 32]));
+    // Neither is the beginning and the end of one the beginning and the end of another.
+    let ends = |form: &str| form.split_once("..").map(|(a, z)| (a.to_string(), z.to_string()));
+    for key in &keys {
+        let Some((first, last)) = ends(&forms.get(key)) else { continue };
+        let alike = |other: &&[u8; 32]| {
+            let text = base58::encode(other);
+            text.starts_with(&first) && text.ends_with(&last)
+        };
+        assert_eq!(keys.iter().filter(alike).count(), 1);
+    }
+    assert_eq!(forms.get(&[1; 32]), base58::encode(&[1; 32]));
 }
 
 #[test]
@@ -42,14 +70,14 @@ fn refusals_by_number_and_place() {
 #[test]
 fn refusals_in_words() {
     let words = |refusal: Refusal| refusal.to_string();
-    assert_eq!(words(Refusal::Names), "refusal 1: the names are not 88 bytes");
+    assert_eq!(words(Refusal::Names), "refusal 1, place 0: the names are not 88 bytes");
     assert_eq!(
         words(Refusal::Section(Section::Outer)),
-        "refusal 4, section 2 (outer instructions): it ends inside an instruction"
+        "refusal 4, place 2 (section of outer instructions): it ends inside an instruction"
     );
     assert_eq!(
         words(Refusal::Room(Table::Natives)),
-        "refusal 8, table 4 (native actions): it has fewer whole rows than are needed"
+        "refusal 8, place 4 (table of native actions): it has fewer whole rows than are needed"
     );
     assert_eq!(
         words(Refusal::of(11, 0)),

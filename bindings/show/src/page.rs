@@ -1,10 +1,11 @@
 //! The report as one HTML page that needs nothing else: no script, no font, no picture. A shortened
 //! key leads to its full form at the page's end.
 
+use crate::keys::Texts;
 use crate::report::{Deed, Node, Report};
 use crate::words::{self, Part};
 use crate::Keys;
-use mbelaguy::rows::{Mark, MintRow};
+use mbelaguy::rows::{Lack, Mark, Mint};
 use mbelaguy::{base58, ids, Key, Refusal};
 
 const STYLE: &str = include_str!("page.css");
@@ -28,12 +29,13 @@ pub fn page(title: &str, report: &Result<Report, Refusal>, keys: Keys) -> String
 }
 
 fn shown(report: &Report, keys: Keys) -> String {
-    let mut page = Page { keys, met: Vec::new() };
+    let mut page = Page { texts: Texts::of(&report.pack, keys), met: Vec::new() };
     let counts: String =
         words::counts(report).iter().map(|count| format!("<li>{count}</li>")).collect();
     let tree: String =
         report.nodes.iter().enumerate().map(|(n, node)| page.node(n, node)).collect();
-    let mints: String = report.mints.iter().map(|row| page.mint(row)).collect();
+    let mints = words::mints(report);
+    let mints: String = mints.iter().map(|(account, mint)| page.mint(account, mint)).collect();
     let tree = filled(&tree, &format!("<ol class=\"tree\">\n{tree}</ol>"));
     let mints = filled(
         &mints,
@@ -62,7 +64,7 @@ fn filled(rows: &str, shown: &str) -> String {
 
 /// The page being written, with the keys met so far.
 struct Page {
-    keys: Keys,
+    texts: Texts,
     met: Vec<Key>,
 }
 
@@ -97,17 +99,12 @@ impl Page {
         html + "</li>\n"
     }
 
-    fn mint(&mut self, row: &MintRow) -> String {
-        let class = match row.mark {
-            Mark::Recorded => "recorded",
-            Mark::FilledIn => "filled-in",
-            Mark::InDoubt => "in-doubt",
-        };
+    fn mint(&mut self, account: &Key, mint: &Mint) -> String {
         format!(
-            "<tr><td>{}</td><td>{}</td><td><span class=\"mark {class}\">{}</span></td></tr>\n",
-            self.key(&row.account),
-            self.key(&row.mint),
-            row.mark
+            "<tr><td>{}</td><td>{}</td><td>{}</td></tr>\n",
+            self.key(account),
+            self.key(&mint.key().unwrap_or_default()),
+            known(mint)
         )
     }
 
@@ -116,12 +113,13 @@ impl Page {
             Part::Words(words) => escaped(words),
             Part::Title(words) => format!("<b>{}</b>", escaped(words)),
             Part::Key(key) => self.key(key),
+            Part::Known(mint) => known(mint),
         };
         parts.iter().map(part).collect::<Vec<_>>().join(" ")
     }
 
     fn key(&mut self, key: &Key) -> String {
-        let shown = words::key(key, self.keys);
+        let shown = self.texts.get(key);
         if *key == ids::SYSTEM {
             return format!("<span class=\"none\">{shown}</span>");
         }
@@ -129,7 +127,7 @@ impl Page {
             Some(_) => shown,
             None => format!("<code>{shown}</code>"),
         };
-        if self.keys == Keys::Full {
+        if !self.texts.are_short() {
             return shown;
         }
         if !self.met.contains(key) {
@@ -145,12 +143,27 @@ impl Page {
         }
         let mut html = String::from("<section class=\"keys\">\n<h2>Keys in full</h2>\n<dl>\n");
         for key in &self.met {
-            let (name, full) = (words::key(key, Keys::Short), base58::encode(key));
+            let (name, full) = (self.texts.get(key), base58::encode(key));
             html +=
                 &format!("<div id=\"{full}\"><dt>{name}</dt><dd><code>{full}</code></dd></div>\n");
         }
         html + "</dl>\n</section>\n"
     }
+}
+
+/// How a mint is known, set apart by how sure that is.
+fn known(mint: &Mint) -> String {
+    let class = match mint {
+        Mint::Marked { mark: Mark::Recorded, .. } => "recorded",
+        Mint::Marked { mark: Mark::FilledIn, .. } => "filled-in",
+        Mint::Marked { mark: Mark::InDoubt, .. } => "in-doubt",
+        Mint::Named { lack: Lack::NoEvidence, .. } => "named",
+        Mint::Unknown(Lack::NoEvidence) => "no-evidence",
+        Mint::Named { lack: Lack::Contradictory, .. } | Mint::Unknown(Lack::Contradictory) => {
+            "contradictory"
+        }
+    };
+    format!("<span class=\"mark {class}\">{mint}</span>")
 }
 
 fn escaped(text: &str) -> String {

@@ -11,6 +11,8 @@ pub struct Report {
     pub pack: Pack,
     pub answer: Answer,
     pub mints: Vec<MintRow>,
+    /// Accounts without a mint because they were seen with two.
+    pub contradicted: Vec<Key>,
     pub nodes: Vec<Node>,
 }
 
@@ -50,8 +52,14 @@ impl Report {
         }
         let pack = pack::read(bytes)?;
         let nodes = nodes(&pack, tables);
-        let mints = tables.mints().collect();
-        Ok(Report { bytes: bytes.len(), pack, answer: *answer, mints, nodes })
+        Ok(Report {
+            bytes: bytes.len(),
+            answer: *answer,
+            mints: tables.mints().collect(),
+            contradicted: pack.contradicted().into_iter().collect(),
+            nodes,
+            pack,
+        })
     }
 }
 
@@ -64,13 +72,12 @@ fn nodes(pack: &Pack, tables: &Tables) -> Vec<Node> {
         while above.last().is_some_and(|end| *end <= number) {
             above.pop();
         }
-        let index = step.instruction.program;
-        let key = pack.keys.get(index as usize).filter(|_| invocation.resolved);
+        let unresolved = Program::Unresolved(step.instruction.program);
         nodes.push(Node {
             invocation,
             depth: above.len(),
             has_next: invocation.end < above.last().copied().unwrap_or(all),
-            program: key.map_or(Program::Unresolved(index), |row| Program::Key(row.key)),
+            program: pack.program(step.instruction).map_or(unresolved, Program::Key),
             deeds: Vec::new(),
         });
         above.push(invocation.end);

@@ -1,5 +1,6 @@
 //! The report as plain text.
 
+use crate::keys::Texts;
 use crate::report::{Node, Report};
 use crate::words::{self, Part};
 use crate::Keys;
@@ -9,30 +10,32 @@ const DRAWN: usize = 12;
 
 /// The report as lines of text.
 pub fn text(report: &Report, keys: Keys) -> String {
+    let texts = Texts::of(&report.pack, keys);
     let mut lines = vec![words::pack(report), words::counts(report).join(", ")];
     lines.extend([String::new(), "Mints".to_string()]);
-    lines.extend(mints(report, keys));
+    lines.extend(mints(report, &texts));
     lines.extend([String::new(), "Invocations".to_string()]);
-    lines.extend(tree(&report.nodes, keys));
+    lines.extend(tree(&report.nodes, &texts));
     lines.iter().map(|line| format!("{}\n", line.trim_end())).collect()
 }
 
-fn mints(report: &Report, keys: Keys) -> Vec<String> {
-    let rows: Vec<_> = report
-        .mints
-        .iter()
-        .map(|row| (words::key(&row.account, keys), words::key(&row.mint, keys), row.mark))
+fn mints(report: &Report, texts: &Texts) -> Vec<String> {
+    let rows: Vec<_> = words::mints(report)
+        .into_iter()
+        .map(|(account, mint)| {
+            (texts.get(&account), texts.get(&mint.key().unwrap_or_default()), mint)
+        })
         .collect();
     if rows.is_empty() {
         return vec!["  none".to_string()];
     }
     let account = rows.iter().map(|row| row.0.len()).max().unwrap_or(0);
     let mint = rows.iter().map(|row| row.1.len()).max().unwrap_or(0);
-    let line = |(a, m, mark)| format!("  {a:account$}  {m:mint$}  {mark}");
+    let line = |(a, m, known)| format!("  {a:account$}  {m:mint$}  {known}");
     rows.into_iter().map(line).collect()
 }
 
-fn tree(nodes: &[Node], keys: Keys) -> Vec<String> {
+fn tree(nodes: &[Node], texts: &Texts) -> Vec<String> {
     if nodes.is_empty() {
         return vec!["  none".to_string()];
     }
@@ -52,7 +55,7 @@ fn tree(nodes: &[Node], keys: Keys) -> Vec<String> {
             ..=DRAWN => String::new(),
             depth => format!("(depth {depth}) "),
         };
-        let program = phrase(&[words::program(node)], keys);
+        let program = phrase(&[words::program(node)], texts);
         let mut about = vec![words::position(&node.invocation)];
         about.extend(words::notes(&node.invocation).into_iter().map(String::from));
         let about = about.join(", ");
@@ -63,7 +66,7 @@ fn tree(nodes: &[Node], keys: Keys) -> Vec<String> {
         let stem = guide(holds);
         for deed in &node.deeds {
             for line in words::deed(deed) {
-                lines.push(format!("  {:width$}  {below}{stem}  {}", "", phrase(&line, keys)));
+                lines.push(format!("  {:width$}  {below}{stem}  {}", "", phrase(&line, texts)));
             }
         }
     }
@@ -78,10 +81,11 @@ fn guide(goes_on: bool) -> &'static str {
     }
 }
 
-fn phrase(parts: &[Part], keys: Keys) -> String {
+fn phrase(parts: &[Part], texts: &Texts) -> String {
     let part = |part: &Part| match part {
         Part::Words(words) | Part::Title(words) => words.clone(),
-        Part::Key(key) => words::key(key, keys),
+        Part::Key(key) => texts.get(key),
+        Part::Known(mint) => format!("({mint})"),
     };
     parts.iter().map(part).collect::<Vec<_>>().join(" ")
 }

@@ -2,9 +2,8 @@
 //! keys as it likes.
 
 use crate::report::{Deed, Node, Program, Report};
-use crate::Keys;
-use mbelaguy::rows::{Action, Invocation, Leg, Native, Transfer};
-use mbelaguy::{base58, ids, Key};
+use mbelaguy::rows::{Action, Invocation, Lack, Leg, Mint, MintRow, Native, Transfer};
+use mbelaguy::{ids, Key};
 
 /// A part of a phrase.
 #[derive(Clone, Debug, PartialEq, Eq)]
@@ -13,6 +12,8 @@ pub enum Part {
     /// Words that tell at a glance what the phrase is about.
     Title(String),
     Key(Key),
+    /// How the mint before it is known.
+    Known(Mint),
 }
 
 pub type Phrase = Vec<Part>;
@@ -23,16 +24,6 @@ fn words(text: impl Into<String>) -> Part {
 
 fn title(text: impl Into<String>) -> Part {
     Part::Title(text.into())
-}
-
-/// What stands for a key: its name, `none` for the zero key, else base58.
-pub fn key(key: &Key, keys: Keys) -> String {
-    match (ids::name(key), keys) {
-        (Some(name), _) => name.to_string(),
-        (None, _) if *key == ids::SYSTEM => "none".to_string(),
-        (None, Keys::Short) => base58::short(key),
-        (None, Keys::Full) => base58::encode(key),
-    }
 }
 
 /// The pack in one line.
@@ -62,6 +53,15 @@ pub fn counts(report: &Report) -> Vec<String> {
 
 fn count(n: usize, name: &str) -> String {
     format!("{} {name}{}", grouped(n as u64), if n == 1 { "" } else { "s" })
+}
+
+/// The rows of table 0, then the accounts that have none because they were seen with two mints: each
+/// account, and its mint.
+pub fn mints(report: &Report) -> Vec<(Key, Mint)> {
+    let marked = |row: &MintRow| (row.account, Mint::Marked { key: row.mint, mark: row.mark });
+    let none = |account: &Key| (*account, Mint::Unknown(Lack::Contradictory));
+    let rows = report.mints.iter().map(marked);
+    rows.chain(report.contradicted.iter().map(none)).collect()
 }
 
 /// The program of an invocation.
@@ -137,46 +137,44 @@ fn transfer(transfer: &Transfer) -> Phrase {
     phrase.extend([words("to"), Part::Key(transfer.destination)]);
     match transfer.fee {
         Some(0) => {}
-        Some(fee) => phrase.push(words(format!("with a fee of {}", units(fee, transfer.mint)))),
+        Some(fee) => phrase.push(words(format!("with a fee of {}", units(fee, &transfer.mint)))),
         None => phrase.push(words("(fee unknown)")),
     }
     phrase
 }
 
 fn native(native: &Native) -> Phrase {
-    let account = Part::Key(native.account);
-    match native.action {
-        Action::Fund { source, lamports } => vec![
-            title("fund"),
-            account,
-            words(format!("with {} from", sol(lamports))),
-            Part::Key(source),
-        ],
-        Action::Sync => vec![title("sync"), account],
-        Action::Close { destination, authority } => vec![
-            title("close"),
-            account,
-            words("to"),
-            Part::Key(destination),
-            words("by"),
-            Part::Key(authority),
-        ],
-    }
+    let (done, more) = match native.action {
+        Action::Fund { source, lamports } => {
+            ("fund", vec![words(format!("with {} from", sol(lamports))), Part::Key(source)])
+        }
+        Action::Sync => ("sync", vec![]),
+        Action::Close { destination, authority } => {
+            ("close", vec![words("to"), Part::Key(destination), words("by"), Part::Key(authority)])
+        }
+    };
+    let mint = Mint::Marked { key: ids::WRAPPED_SOL, mark: native.mark };
+    let mut phrase = vec![title(done), words("wrapped SOL account"), Part::Key(native.account)];
+    phrase.push(Part::Known(mint));
+    phrase.extend(more);
+    phrase
 }
 
-/// So much of a mint.
-fn amount(value: u64, mint: Option<Key>) -> Phrase {
-    let units = units(value, mint);
-    match mint {
+/// So much of a mint, and how that is known.
+fn amount(value: u64, mint: Mint) -> Phrase {
+    let units = units(value, &mint);
+    let mut phrase = match mint.key() {
         Some(ids::WRAPPED_SOL) => vec![words(format!("{units} wrapped"))],
-        Some(mint) => vec![words(format!("{units} of")), Part::Key(mint)],
+        Some(key) => vec![words(format!("{units} of")), Part::Key(key)],
         None => vec![words(format!("{units} of an unknown mint"))],
-    }
+    };
+    phrase.push(Part::Known(mint));
+    phrase
 }
 
 /// Wrapped SOL has nine decimals; of other mints the pack tells none, so their units are counted.
-fn units(value: u64, mint: Option<Key>) -> String {
-    match mint {
+fn units(value: u64, mint: &Mint) -> String {
+    match mint.key() {
         Some(ids::WRAPPED_SOL) => sol(value),
         _ => grouped(value),
     }

@@ -1,8 +1,8 @@
 //! What is printed of tables made by hand. The sample's text is checked in compare/, by the oracle.
 
-use mbelaguy::pack::{Group, Inner, Instruction, KeyRow, Pack};
+use mbelaguy::pack::{Balance, Group, Inner, Instruction, KeyRow, Pack};
 use mbelaguy::rows::Invocation;
-use mbelaguy::{ids, Answer, Key, Refusal, Tables};
+use mbelaguy::{base58, ids, Answer, Key, Refusal, Tables};
 use show::{page, text, Keys, Report};
 use std::collections::BTreeSet;
 
@@ -34,35 +34,113 @@ fn chain(depth: u32) -> Report {
     report(&pack, answer, [vec![], rows, vec![], vec![], vec![]])
 }
 
-/// Three accounts with a mint: a made-up one, the zero key, a program's.
+/// Three accounts with a mint: a made-up one, the zero key, a program's. A fourth was seen with two.
 fn marks() -> Report {
     let row = |account: Key, mint: Key, mark| [&account[..], &mint, &[mark]].concat();
     let rows =
         [row([0; 32], ids::WRAPPED_SOL, 0), row([1; 32], [2; 32], 1), row(ids::MEMO, [2; 32], 2)];
     let answer = Answer { counts: [3, 0, 0, 0, 0], passes: 1, ..Answer::default() };
-    report(&Pack::default(), answer, [rows.concat(), vec![], vec![], vec![], vec![]])
+    let pack = Pack {
+        keys: [[1; 32], [2; 32], [3; 32]].map(key_row).to_vec(),
+        balances: [[2; 32], [4; 32]].map(|mint| Balance { account: 2, mint }).to_vec(),
+        ..Pack::default()
+    };
+    report(&pack, answer, [rows.concat(), vec![], vec![], vec![], vec![]])
 }
 
 fn report(pack: &Pack, answer: Answer, bytes: [Vec<u8>; 5]) -> Report {
-    let tables = Tables::read(&answer, bytes).unwrap();
-    Report::new(&pack.write().unwrap(), &answer, &tables).unwrap()
+    let pack = pack.write().unwrap();
+    let tables = Tables::read(&answer, bytes, &pack).unwrap();
+    Report::new(&pack, &answer, &tables).unwrap()
 }
 
 #[test]
 fn marks_are_spelled_out() {
     let expected = "\
-pack of 24 bytes: 0 keys, 0 balances, 0 outer instructions, 0 inner groups, 0 graduated pools
+pack of 195 bytes: 3 keys, 2 balances, 0 outer instructions, 0 inner groups, 0 graduated pools
 3 mints, 0 invocations, 0 transfers, 0 swap legs, 0 native actions, 1 pass, 0 tests
 
 Mints
   none        wrapped SOL  recorded
   4vJ9..kLKi  8qbH..VfeR   filled in
   Memo        8qbH..VfeR   in doubt
+  CktR..Ezy8  none         contradictory evidence
 
 Invocations
   none
 ";
     assert_eq!(text(&marks(), Keys::Short), expected);
+}
+
+/// One outer instruction with a transfer, a leg and a native action: from account 1, whose mint is filled
+/// in, to account 3, which was seen with two mints.
+fn deeds() -> Report {
+    let mint = |key: Key| [&[1][..], &key].concat();
+    let (one, three) = ([1; 32], [3; 32]);
+    let mints = [&one[..], &ids::WRAPPED_SOL, &[1]].concat();
+    let invocation = [&[0; 9][..], &[1, 1, 0, 0, 0, 1, 0, 0, 0, 48, 1, 0, 0, 0]].concat();
+    let amount = [7, 0, 0, 0, 0, 0, 0, 0];
+    let transfer =
+        [&[0; 4][..], &ids::SPL_TOKEN, &three, &one, &[0; 33], &amount, &[0; 9]].concat();
+    let accounts = [ids::PUMP_SWAP, [5; 32], [6; 32], one, three].concat();
+    let mints_of_leg = [mint(ids::WRAPPED_SOL), mint([2; 32])].concat();
+    let leg = [&[0; 4][..], &[1], &accounts, &mints_of_leg, &[1], &amount, &[0; 10]].concat();
+    let native = [&[0; 4][..], &[2], &one, &[0; 72]].concat();
+    let answer = Answer { counts: [1; 5], ..Answer::default() };
+    let pack = Pack {
+        keys: [one, [2; 32], three, [5; 32], [6; 32]].map(key_row).to_vec(),
+        balances: [[2; 32], [4; 32]].map(|mint| Balance { account: 2, mint }).to_vec(),
+        outer: vec![Instruction::default()],
+        ..Pack::default()
+    };
+    report(&pack, answer, [mints, invocation, transfer, leg, native])
+}
+
+#[test]
+fn a_mint_beside_an_amount_has_its_mark() {
+    let expected = [
+        "swap on PumpSwap pool LbUi..jfcY by QWmr..UzwF",
+        "in exactly 0.000000007 SOL wrapped (filled in) from 4vJ9..kLKi",
+        "out at least 0 of 8qbH..VfeR (named by the swap, contradictory evidence) to CktR..Ezy8",
+        "transfer 7 of an unknown mint (contradictory evidence) from CktR..Ezy8 to 4vJ9..kLKi \
+         (fee unknown)",
+        "sync wrapped SOL account 4vJ9..kLKi (filled in)",
+    ];
+    let shown = text(&deeds(), Keys::Short);
+    let lines: Vec<_> = shown.lines().map(str::trim_start).collect();
+    assert!(lines.ends_with(&expected), "{shown}");
+    let page = page("deeds", &Ok(deeds()), Keys::Short);
+    let (tree, _) = page.split_once("</ol>").expect("a tree");
+    for (class, mark, count) in [
+        ("filled-in", "filled in", 2),
+        ("contradictory", "named by the swap, contradictory evidence", 1),
+        ("contradictory", "contradictory evidence", 1),
+    ] {
+        let shown = format!("<span class=\"mark {class}\">{mark}</span>");
+        assert_eq!(tree.matches(&shown).count(), count, "{mark}");
+    }
+}
+
+/// Two accounts whose texts begin and end alike, and a third that is no like them.
+#[test]
+fn two_keys_never_look_alike() {
+    let [one, other] = [
+        "So11111111111111111111111111111111111111113",
+        "So11111111111111111111111111111111111121113",
+    ]
+    .map(|text| base58::decode(text).unwrap());
+    let row = |account: Key| [&account[..], &[2; 32], &[0]].concat();
+    let rows = [row([1; 32]), row(one), row(other)].concat();
+    let pack =
+        Pack { keys: [[1; 32], [2; 32], one, other].map(key_row).to_vec(), ..Pack::default() };
+    let answer = Answer { counts: [3, 0, 0, 0, 0], ..Answer::default() };
+    let report = report(&pack, answer, [rows, vec![], vec![], vec![], vec![]]);
+    let shown = text(&report, Keys::Short);
+    let page = page("alike", &Ok(report), Keys::Short);
+    for form in ["4vJ9..kLKi", "So111..11113", "So111..21113"] {
+        assert!(shown.contains(&format!("  {form} ")), "{form}: {shown}");
+        assert_eq!(page.matches(&format!(">{form}<")).count(), 2, "in the table and in full");
+    }
 }
 
 #[test]
@@ -105,7 +183,7 @@ fn a_page_stands_alone() {
 fn a_refusal_is_told() {
     let page = page("<\"a\" & b>", &Err(Refusal::Keys), Keys::Short);
     assert!(page.contains("<h1>&lt;&quot;a&quot; &amp; b&gt;</h1>"));
-    assert!(page.contains("refusal 5: there are more than 256 keys"));
+    assert!(page.contains("refusal 5, place 0: there are more than 256 keys"));
     let answer = Answer::refused(Refusal::Starts);
     let tables = Tables::with_room([0; 5]);
     assert_eq!(Report::new(&[], &answer, &tables).err(), Some(Refusal::Starts));

@@ -3,7 +3,30 @@
 //! A pack is at most [`MAX_BYTES`] long, its numbers little-endian. Five sections come first (keys,
 //! balances, outer instructions, inner groups, graduated pools), then 24 bytes: where each section
 //! starts, and the mark `RTP1`.
+//!
+//! ```
+//! use mbelaguy::pack::{self, Balance, Instruction, KeyRow, Pack};
+//! use mbelaguy::ids;
+//!
+//! // One account with a balance, and a plain transfer of 7 to another.
+//! let key = |key| KeyRow { whole: true, key };
+//! let pack = Pack {
+//!     keys: vec![key([1; 32]), key([2; 32]), key(ids::SPL_TOKEN)],
+//!     balances: vec![Balance { account: 0, mint: [9; 32] }],
+//!     outer: vec![Instruction {
+//!         program: 2,
+//!         accounts: vec![0, 1, 0],
+//!         data: [&[3][..], &7u64.to_le_bytes()].concat(),
+//!     }],
+//!     ..Pack::default()
+//! };
+//! let bytes = pack.write()?;
+//! assert!(bytes.ends_with(&pack::MARK));
+//! assert_eq!(pack::read(&bytes), Ok(pack));
+//! # Ok::<(), pack::DoesNotFit>(())
+//! ```
 
+mod evidence;
 mod order;
 mod read;
 mod write;
@@ -41,7 +64,9 @@ pub struct Pack {
     pub keys: Vec<KeyRow>,
     /// Balances before the transaction, then those after it.
     pub balances: Vec<Balance>,
+    /// The transaction's own instructions.
     pub outer: Vec<Instruction>,
+    /// The instructions that those called.
     pub groups: Vec<Group>,
     /// Pools that the caller knows to have graduated.
     pub pools: Vec<Key>,
@@ -50,35 +75,46 @@ pub struct Pack {
 /// A key, and whether its source had exactly 32 bytes.
 #[derive(Clone, Copy, Debug, PartialEq, Eq)]
 pub struct KeyRow {
+    /// Whether it had; only then can it be a program.
     pub whole: bool,
+    /// The key, or what the host's reader gave in its place.
     pub key: Key,
 }
 
 /// The mint of the account at an index.
 #[derive(Clone, Copy, Debug, PartialEq, Eq)]
 pub struct Balance {
+    /// Index into the keys.
     pub account: u32,
+    /// The mint that the node reported.
     pub mint: Key,
 }
 
 /// An instruction: indexes into the keys, and data.
 #[derive(Clone, Debug, Default, PartialEq, Eq)]
 pub struct Instruction {
+    /// Index of the program among the keys.
     pub program: u32,
+    /// Indexes of the accounts among the keys.
     pub accounts: Vec<u8>,
+    /// What the program is told.
     pub data: Vec<u8>,
 }
 
 /// Inner instructions of the outer instruction at an index.
 #[derive(Clone, Debug, Default, PartialEq, Eq)]
 pub struct Group {
+    /// Index of the outer instruction.
     pub outer: u32,
+    /// What it called, in execution order.
     pub instructions: Vec<Inner>,
 }
 
 /// An inner instruction with its stack height, where that is known.
 #[derive(Clone, Debug, Default, PartialEq, Eq)]
 pub struct Inner {
+    /// The stack height: 2 for what an outer instruction called.
     pub height: Option<u32>,
+    /// The instruction.
     pub instruction: Instruction,
 }

@@ -5,6 +5,14 @@ use std::error::Error;
 use std::fmt;
 
 /// What has no room in a pack, and how much of it there is.
+///
+/// ```
+/// use mbelaguy::pack::{DoesNotFit, Instruction, Pack};
+///
+/// let long = Instruction { data: vec![0; 70_000], ..Instruction::default() };
+/// let pack = Pack { outer: vec![long], ..Pack::default() };
+/// assert_eq!(pack.write(), Err(DoesNotFit::Data(70_000)));
+/// ```
 #[derive(Clone, Copy, Debug, PartialEq, Eq)]
 pub enum DoesNotFit {
     /// Accounts of an instruction.
@@ -70,6 +78,14 @@ impl Pack {
 }
 
 /// Sections one after the other, then the trailer. What is longer than a pack may be is joined too.
+///
+/// ```
+/// use mbelaguy::pack::{join, sections, POOL_ROW};
+///
+/// let parts = [vec![], vec![], vec![], vec![], vec![7; POOL_ROW]];
+/// let pack = join(&parts);
+/// assert_eq!(sections(&pack), Ok(parts.each_ref().map(Vec::as_slice)));
+/// ```
 pub fn join(sections: &[Vec<u8>; 5]) -> Vec<u8> {
     let mut pack = Vec::new();
     let mut starts = Vec::new();

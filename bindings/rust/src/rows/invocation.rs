@@ -2,8 +2,9 @@
 
 use super::Row;
 use crate::bytes::Reader;
-use crate::Table;
+use crate::{Table, Tables};
 
+/// A row of table 1.
 #[derive(Clone, Copy, Debug, PartialEq, Eq)]
 pub struct Invocation {
     /// Index of the outer instruction.
@@ -29,12 +30,17 @@ pub struct Invocation {
 }
 
 impl Invocation {
-    /// The bits of a row.
+    /// The bit of [`Self::transfers_inside`].
     pub const TRANSFERS_INSIDE: u8 = 1;
+    /// The bit of [`Self::swaps_inside`].
     pub const SWAPS_INSIDE: u8 = 2;
+    /// The bit of [`Self::skipped`].
     pub const SKIPPED: u8 = 4;
+    /// The bit of [`Self::resolved`].
     pub const RESOLVED: u8 = 8;
+    /// The bit that says that there is a [`Self::leg`].
     pub const OWN_LEG: u8 = 16;
+    /// The bit of [`Self::own_transfer`].
     pub const OWN_TRANSFER: u8 = 32;
 
     /// The bits as the row has them.
@@ -56,7 +62,7 @@ impl Invocation {
 impl Row for Invocation {
     const TABLE: Table = Table::Invocations;
 
-    fn read_fields(reader: &mut Reader<'_>) -> Option<Self> {
+    fn read_fields(reader: &mut Reader<'_>, _: &Tables) -> Option<Self> {
         let outer = reader.u32()?;
         let inner = reader.optional()?.map(u32::from_le_bytes);
         let height = reader.optional()?.map(u32::from_le_bytes);

@@ -1,27 +1,37 @@
 //! Table 3: the swap legs.
 
-use super::Row;
+use super::{Mint, Row};
 use crate::bytes::Reader;
-use crate::{Key, Table};
+use crate::{Key, Table, Tables};
 use std::fmt;
 
+/// A row of table 3.
 #[derive(Clone, Copy, Debug, PartialEq, Eq)]
 pub struct Leg {
     /// The invocation's number.
     pub invocation: u32,
+    /// Whose swap it is.
     pub protocol: Protocol,
+    /// The program that was called.
     pub program: Key,
+    /// The pool, or the bonding curve.
     pub pool: Key,
+    /// Who swaps.
     pub trader: Key,
+    /// The account that pays; of a PumpFun swap for SOL the trader's own.
     pub input: Key,
+    /// The account that is paid, likewise.
     pub output: Key,
-    pub input_mint: Option<Key>,
-    pub output_mint: Option<Key>,
+    /// The mint of the input: table 0's, else the one that the instruction names.
+    pub input_mint: Mint,
+    /// The mint of the output, likewise.
+    pub output_mint: Mint,
     /// The amount is the input and the threshold the least output; else the amount is the output and
     /// the threshold the greatest input.
     pub exact_in: bool,
     /// What the instruction asks for, not what was moved.
     pub amount: u64,
+    /// The least output or the greatest input that the instruction allows.
     pub threshold: u64,
     /// The StonkFun platform of a LaunchLab swap.
     pub mode: Option<Mode>,
@@ -32,17 +42,26 @@ pub struct Leg {
 /// Protocols, 1 to 8 in a row.
 #[derive(Clone, Copy, Debug, PartialEq, Eq)]
 pub enum Protocol {
+    /// PumpSwap, the market of PumpFun.
     PumpSwap = 1,
+    /// Raydium LaunchLab.
     LaunchLab,
+    /// Raydium CPMM.
     Cpmm,
+    /// Raydium AMM V4.
     AmmV4,
+    /// Raydium CLMM.
     Clmm,
+    /// Orca Whirlpool.
     Orca,
+    /// Meteora DLMM.
     Dlmm,
+    /// PumpFun's bonding curve.
     PumpFun,
 }
 
 impl Protocol {
+    /// The protocols by their numbers, the first being 1.
     pub const ALL: [Self; 8] = [
         Self::PumpSwap,
         Self::LaunchLab,
@@ -73,7 +92,9 @@ impl fmt::Display for Protocol {
 /// StonkFun platforms, 1 and 2 in a row.
 #[derive(Clone, Copy, Debug, PartialEq, Eq)]
 pub enum Mode {
+    /// The platform config that [`crate::Names::standard`] names.
     Standard = 1,
+    /// The one that [`crate::Names::reward`] names.
     Reward,
 }
 
@@ -89,17 +110,21 @@ impl fmt::Display for Mode {
 impl Row for Leg {
     const TABLE: Table = Table::Legs;
 
-    fn read_fields(reader: &mut Reader<'_>) -> Option<Self> {
+    fn read_fields(reader: &mut Reader<'_>, tables: &Tables) -> Option<Self> {
+        let invocation = reader.u32()?;
+        let protocol = *Protocol::ALL.get(usize::from(reader.byte()?).checked_sub(1)?)?;
+        let (program, pool, trader) = (reader.key()?, reader.key()?, reader.key()?);
+        let (input, output) = (reader.key()?, reader.key()?);
         Some(Leg {
-            invocation: reader.u32()?,
-            protocol: *Protocol::ALL.get(usize::from(reader.byte()?).checked_sub(1)?)?,
-            program: reader.key()?,
-            pool: reader.key()?,
-            trader: reader.key()?,
-            input: reader.key()?,
-            output: reader.key()?,
-            input_mint: reader.optional()?,
-            output_mint: reader.optional()?,
+            invocation,
+            protocol,
+            program,
+            pool,
+            trader,
+            input,
+            output,
+            input_mint: Mint::of_side(reader.optional()?, tables, &input)?,
+            output_mint: Mint::of_side(reader.optional()?, tables, &output)?,
             exact_in: reader.flag()?,
             amount: reader.u64()?,
             threshold: reader.u64()?,

@@ -1,4 +1,35 @@
-//! Rows of the five tables as typed values.
+//! Rows of the five tables as typed values. Where a row has a mint beside an amount, it has its mark
+//! of table 0 with it.
+//!
+//! ```
+//! # #[cfg(feature = "link")] {
+//! use mbelaguy::rows::{Action, Mark, Protocol};
+//! use mbelaguy::{ids, route, Names, Tables};
+//!
+//! // The sample: one coin is sold for wrapped SOL on CPMM, and another bought with it on PumpSwap.
+//! let sample = concat!(env!("CARGO_MANIFEST_DIR"), "/../../examples/aggregator_swap.bin");
+//! let input = std::fs::read(sample).expect("the sample");
+//! let (names, pack) = input.split_at(Names::BYTES);
+//! let mut tables = Tables::full();
+//! route(names, pack, &mut tables).expect("accepted");
+//!
+//! let leg = tables.legs().next().expect("two legs");
+//! assert_eq!(leg.protocol, Protocol::Cpmm);
+//! assert!(leg.exact_in && leg.graduated);
+//! assert_eq!((leg.amount, leg.threshold), (900_000_000, 1_180_000_000));
+//! assert_eq!(leg.output_mint.key(), Some(ids::WRAPPED_SOL));
+//!
+//! // What moved below the leg: invocations after its own, up to the end of its block.
+//! let block = tables.invocations().nth(leg.invocation as usize).expect("its invocation");
+//! let below = leg.invocation + 1..block.end;
+//! let moved = tables.transfers().filter(|transfer| below.contains(&transfer.invocation));
+//! assert_eq!(moved.map(|row| row.amount).collect::<Vec<_>>(), [900_000_000, 1_203_456_789]);
+//!
+//! assert!(tables.transfers().all(|transfer| transfer.mint.mark() == Some(Mark::Recorded)));
+//! let close = |action| matches!(action, Action::Close { .. });
+//! assert!(tables.natives().any(|native| close(native.action)));
+//! # }
+//! ```
 
 mod invocation;
 mod leg;
@@ -8,12 +39,12 @@ mod transfer;
 
 pub use invocation::Invocation;
 pub use leg::{Leg, Mode, Protocol};
-pub use mint::{Mark, MintRow};
+pub use mint::{Lack, Mark, Mint, MintRow};
 pub use native::{Action, Native};
 pub use transfer::Transfer;
 
 use crate::bytes::Reader;
-use crate::{Table, WIDTHS};
+use crate::{Table, Tables, WIDTHS};
 use std::marker::PhantomData;
 use std::slice::ChunksExact;
 
@@ -22,31 +53,25 @@ pub trait Row: Sized {
     /// The table whose row it is.
     const TABLE: Table;
 
-    /// The row in these bytes: `None` where they are not of a row's length or a flag, mark, protocol,
-    /// kind or mode has no meaning.
-    fn read(bytes: &[u8]) -> Option<Self> {
-        let mut reader = Reader(bytes);
-        let row = Self::read_fields(&mut reader)?;
-        reader.0.is_empty().then_some(row)
-    }
-
+    /// The row: `None` where a flag, mark, protocol, kind or mode has no meaning, or a mint is not the
+    /// one of table 0.
     #[doc(hidden)]
-    fn read_fields(reader: &mut Reader<'_>) -> Option<Self>;
+    fn read_fields(reader: &mut Reader<'_>, tables: &Tables) -> Option<Self>;
 }
 
 /// The used rows of a table, in order.
 #[derive(Clone, Debug)]
 pub struct Rows<'a, R> {
     rows: ChunksExact<'a, u8>,
+    tables: &'a Tables,
     kind: PhantomData<R>,
 }
 
 impl<'a, R: Row> Rows<'a, R> {
-    /// The first rows of a table, as many as there are up to `count`.
-    pub(crate) fn new(table: &'a [u8], count: usize) -> Self {
+    /// The rows in these bytes of a table.
+    pub(crate) fn new(used: &'a [u8], tables: &'a Tables) -> Self {
         let width = WIDTHS[R::TABLE as usize];
-        let used = table.len().min(count.saturating_mul(width));
-        Rows { rows: table[..used].chunks_exact(width), kind: PhantomData }
+        Rows { rows: used.chunks_exact(width), tables, kind: PhantomData }
     }
 }
 
@@ -54,7 +79,7 @@ impl<R: Row> Iterator for Rows<'_, R> {
     type Item = R;
 
     fn next(&mut self) -> Option<R> {
-        R::read(self.rows.next()?)
+        R::read_fields(&mut Reader(self.rows.next()?), self.tables)
     }
 
     fn size_hint(&self) -> (usize, Option<usize>) {

@@ -1,15 +1,19 @@
 //! Table 4: the actions on wrapped SOL accounts.
 
-use super::Row;
+use super::{Mark, Mint, Row};
 use crate::bytes::Reader;
-use crate::{Key, Table};
+use crate::{ids, Key, Table, Tables};
 
+/// A row of table 4.
 #[derive(Clone, Copy, Debug, PartialEq, Eq)]
 pub struct Native {
     /// The invocation's number.
     pub invocation: u32,
     /// The wrapped SOL account.
     pub account: Key,
+    /// How sure it is that its mint is wrapped SOL.
+    pub mark: Mark,
+    /// What happened to it.
     pub action: Action,
 }
 
@@ -17,11 +21,21 @@ pub struct Native {
 #[derive(Clone, Copy, Debug, PartialEq, Eq)]
 pub enum Action {
     /// Lamports came in by a System transfer.
-    Fund { source: Key, lamports: u64 },
+    Fund {
+        /// Who paid.
+        source: Key,
+        /// How much.
+        lamports: u64,
+    },
     /// Its lamports were counted as tokens.
     Sync,
     /// It was closed, and its lamports went to the destination.
-    Close { destination: Key, authority: Key },
+    Close {
+        /// Who took what was left.
+        destination: Key,
+        /// Who closed it.
+        authority: Key,
+    },
 }
 
 impl Action {
@@ -38,7 +52,7 @@ impl Action {
 impl Row for Native {
     const TABLE: Table = Table::Natives;
 
-    fn read_fields(reader: &mut Reader<'_>) -> Option<Self> {
+    fn read_fields(reader: &mut Reader<'_>, tables: &Tables) -> Option<Self> {
         const NONE: Key = [0; 32];
         let invocation = reader.u32()?;
         let kind = reader.byte()?;
@@ -49,6 +63,11 @@ impl Row for Native {
             (3, destination, authority, 0) => Action::Close { destination, authority },
             _ => return None,
         };
-        Some(Native { invocation, account, action })
+        match tables.mint(&account) {
+            Mint::Marked { key: ids::WRAPPED_SOL, mark } => {
+                Some(Native { invocation, account, mark, action })
+            }
+            _ => None,
+        }
     }
 }
