@@ -18,7 +18,8 @@ pub fn files() -> Result<[(&'static str, Vec<u8>); 4], String> {
     let input = [&names[..], &pack].concat();
     let lengths = std::array::from_fn(|t| MOST_ROWS[t] * WIDTHS[t]);
     let reply = reply(&names, &pack, &lengths);
-    let tables = Tables::read(&reply.answer, reply.tables).map_err(|error| error.to_string())?;
+    let tables =
+        Tables::read(&reply.answer, reply.tables, &pack).map_err(|error| error.to_string())?;
     let report = Report::new(&pack, &reply.answer, &tables).map_err(|error| error.to_string())?;
     let listed = listing(&input).into_bytes();
     let shown = text(&report, Keys::Short).into_bytes();

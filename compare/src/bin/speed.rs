@@ -1,16 +1,17 @@
 //! How long the original and the library take for the same packs, both in this process: `speed` prints
-//! a line for each pack. `speed PACK SIDE CALLS` makes so many calls of one side (`original`, `exact`
-//! or `full`) and prints nothing: for a counter of instructions, which is not disturbed by what else
-//! the machine does.
+//! a line for each pack. `speed PACK SIDE CALLS` makes so many calls of one side (`original`, `exact`,
+//! `room` or `full`) and prints nothing: for a counter of instructions, which is not disturbed by what
+//! else the machine does.
 //!
 //! The original starts from a decoded transaction, the library from the bytes of a pack. Its tables
 //! have exactly the rows that the pack needs (`exact`) or all that any pack can need (`full`); it
-//! clears them in each call.
+//! clears them in each call. `room` is what a user does who keeps nothing: asks the library how much
+//! room suffices, allocates the tables, and makes the call.
 
 use compare::oracle::examine;
 use compare::oracle::feed::{fed, Fed};
 use compare::speed::{packs, Timed};
-use mbelaguy::{Names, Tables, MOST_ROWS};
+use mbelaguy::{Names, Tables, MOST_ROWS, WIDTHS};
 use std::env;
 use std::hint::black_box;
 use std::process::ExitCode;
@@ -25,7 +26,7 @@ fn main() -> ExitCode {
     let packs = packs();
     match &words[..] {
         [] => {
-            println!("pack original exact ratio full ratio (nanoseconds a call)");
+            println!("pack original exact ratio room ratio full ratio (nanoseconds a call)");
             packs.iter().map(Sides::of).for_each(|pack| pack.print_times());
             ExitCode::SUCCESS
         }
@@ -45,7 +46,7 @@ fn main() -> ExitCode {
 }
 
 fn usage() -> ExitCode {
-    eprintln!("usage: speed [names | PACK original|exact|full CALLS]");
+    eprintln!("usage: speed [names | PACK original|exact|room|full CALLS]");
     ExitCode::FAILURE
 }
 
@@ -56,8 +57,15 @@ struct Sides {
     names: Vec<u8>,
     bytes: Vec<u8>,
     fed: Fed,
-    exact: Tables,
-    full: Tables,
+    exact: Lent,
+    full: Lent,
+}
+
+/// The bytes of five tables.
+type Lent = [Vec<u8>; 5];
+
+fn room(rows: [usize; 5]) -> Lent {
+    std::array::from_fn(|t| vec![0; rows[t] * WIDTHS[t]])
 }
 
 impl Sides {
@@ -76,8 +84,8 @@ impl Sides {
                 examined.mints.passes
             ),
             fed: fed(&timed.pack),
-            exact: Tables::with_room(examined.needs),
-            full: Tables::with_room(MOST_ROWS),
+            exact: room(examined.needs),
+            full: room(MOST_ROWS),
             names,
             bytes,
         }
@@ -88,22 +96,29 @@ impl Sides {
         original::work(black_box(transaction), black_box(meta), black_box(graduated));
     }
 
-    fn library(&self, tables: &mut Tables) {
-        let answer = mbelaguy::route(black_box(&self.names), black_box(&self.bytes), tables);
+    fn library(&self, tables: &mut Lent) {
+        let lent = tables.each_mut().map(Vec::as_mut_slice);
+        let answer = mbelaguy::route_into(black_box(&self.names), black_box(&self.bytes), lent);
+        assert_eq!(black_box(answer).number, 0, "the packs are not refused");
+    }
+
+    fn in_room(&self) {
+        let mut tables = Tables::for_pack(black_box(&self.bytes));
+        let answer = mbelaguy::route(black_box(&self.names), &self.bytes, &mut tables);
         black_box(answer).expect("the packs are not refused");
     }
 
     fn run(&self, side: &str, calls: usize) -> ExitCode {
         let mut tables = match side {
-            "exact" | "original" => self.exact.clone(),
+            "exact" | "original" | "room" => self.exact.clone(),
             "full" => self.full.clone(),
             _ => return usage(),
         };
         for _ in 0..calls {
-            if side == "original" {
-                self.original();
-            } else {
-                self.library(&mut tables);
+            match side {
+                "original" => self.original(),
+                "room" => self.in_room(),
+                _ => self.library(&mut tables),
             }
         }
         ExitCode::SUCCESS
@@ -113,11 +128,13 @@ impl Sides {
         let (mut exact, mut full) = (self.exact.clone(), self.full.clone());
         let original = nanoseconds(|| self.original());
         let exact = nanoseconds(|| self.library(&mut exact));
+        let room = nanoseconds(|| self.in_room());
         let full = nanoseconds(|| self.library(&mut full));
         println!(
-            "{} {original:.0} {exact:.0} {:.2} {full:.0} {:.2}",
+            "{} {original:.0} {exact:.0} {:.2} {room:.0} {:.2} {full:.0} {:.2}",
             self.name,
             exact / original,
+            room / original,
             full / original
         );
     }

@@ -21,7 +21,7 @@ fn one(seed: u64) -> Outcome {
         same("written again", examined.pack.write(), Ok(case.pack.clone()))?;
         invariants::examined(examined)?;
         if reply.answer.number == 0 {
-            rows::agree(examined, &reply)?;
+            rows::agree(examined, &reply, &case.pack)?;
         }
     }
     invariants::reply(&case, &examined, &reply)?;

@@ -3,7 +3,7 @@
 use super::{Verdict, TOLD};
 use crate::generate::Case;
 use crate::oracle::Reply;
-use mbelaguy::route_into;
+use mbelaguy::{room, route_into, WIDTHS};
 
 /// What tables are filled with before a call.
 const OTHER: u8 = 165;
@@ -37,6 +37,16 @@ fn difference(case: &Case, reply: &Reply) -> Option<String> {
     if answer != reply.answer {
         return Some(format!("other numbers: {answer:?}, expected {:?}", reply.answer));
     }
-    let other = (0..5).find(|&t| tables[t] != reply.tables[t])?;
-    Some(format!("another table {other}"))
+    if let Some(other) = (0..5).find(|&t| tables[t] != reply.tables[t]) {
+        return Some(format!("another table {other}"));
+    }
+    let lent: [usize; 5] = std::array::from_fn(|t| case.lengths[t] / WIDTHS[t]);
+    let suffices = match (reply.answer.number, room(&case.pack)) {
+        (0, Ok(rows)) => (0..5).all(|t| reply.answer.counts[t] as usize <= rows[t]),
+        (2..=6, Err(refusal)) => Some(refusal) == reply.answer.refusal(),
+        (8, Ok(rows)) => lent[reply.answer.place as usize] < rows[reply.answer.place as usize],
+        // Whatever the names are: of other refusals nothing is said.
+        (number, _) => number == 1 || number == 7,
+    };
+    (!suffices).then(|| format!("other room: {:?}", room(&case.pack)))
 }
