@@ -160,7 +160,7 @@ fn names_end(input: &[u8]) -> usize
 }
 
 // The listing of the names and the pack that the input is, and its length. Bytes past the end of `out` are dropped, and those behind the listing stay.
-pub fn list(input: &[u8], out: &mut [u8]) -> usize
+fn list(input: &[u8], out: &mut [u8]) -> usize
     ensures { λ r. ⌜ PutsText 65536 (now (out .entry)) 0 (listing (now (input .entry))) (now (out .exit)) r ⌝ }
 {
     let mut mints = [0u8; 256 * width::MINTS];
