@@ -5,8 +5,8 @@ use mathlib.Core.List.{List, [], _∷_, _++_, map}
 use Prim.Native.Nat.{ℕ}
 use lib.ListN.{replicate}
 use Rattle.wire.specs.Same.{same}
+use Rattle.wire.specs.Order.{ltKey}
 use Rattle.ids.specs.Keys.{Key, zeroKey}
-use Rattle.evidence.specs.Keys.{ltKey}
 use Rattle.evidence.specs.Table.{lookup}
 use Rattle.evidence.specs.Evidence.{Evidence, put, note, noteAll, recorded}
 use Rattle.evidence.specs.Passes.{Transfers, fill, spread, step, pass}

@@ -2,8 +2,8 @@
 -- nothing has followed all. Assumes nothing.
 use mathlib.Core.Path.{_≡_, sym}
 use mathlib.Core.Logic.{_≢_, _⊎_, inl, inr, _↔_, ⊎-elim, by-cases}
+use Rattle.wire.proofs.Order.{key?}
 use Rattle.ids.specs.Keys.{Key, zeroKey}
-use Rattle.evidence.proofs.Keys.{key?}
 use Rattle.evidence.specs.Table.{Table, add, Has, Lacks}
 use Rattle.evidence.proofs.Table.{has-add, has-not-lacks, has-or-lacks, add-cases}
 use Rattle.evidence.specs.Evidence.{Evidence, recorded, Free, Clash}

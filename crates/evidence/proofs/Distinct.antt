@@ -7,8 +7,8 @@ use Prim.Native.Nat.{suc, _≤_}
 use native.Mathlib.Omega.{arith}
 use lib.ListN.{length, length-map}
 use Rattle.wire.proofs.Same.{same-eq, same-ne}
+use Rattle.wire.proofs.Order.{key?}
 use Rattle.ids.specs.Keys.{Key}
-use Rattle.evidence.proofs.Keys.{key?}
 use Rattle.evidence.specs.Table.{Row, Table, add, Has, has-here, has-there, Lacks, lacks-nil, lacks-cons}
 use Rattle.evidence.proofs.Table.{lacks-add, has-not-lacks}
 use Rattle.evidence.specs.Evidence.{Evidence, put, note, noteAll, recorded}

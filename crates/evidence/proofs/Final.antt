@@ -4,13 +4,13 @@ use mathlib.Core.Path.{_≡_, sym, _∙_, ap}
 use mathlib.Core.Logic.{_≢_, by-cases}
 use mathlib.Core.List.{[], _∷_, List·Memᴰ, List·Memᴰ·head, List·Memᴰ·tail, List·Memᴰ·not-nil}
 use Rattle.wire.proofs.Same.{same-eq, same-ne}
+use Rattle.wire.proofs.Order.{key?}
+use Rattle.wire.proofs.Ascending.{ascending-unique}
 use Rattle.ids.specs.Keys.{Key, zeroKey}
-use Rattle.evidence.proofs.Keys.{key?}
 use Rattle.evidence.specs.Table.{Row, Table, Has, Lacks, lacks-cons}
 use Rattle.evidence.proofs.Table.{row-of-has}
 use Rattle.evidence.proofs.Distinct.{Distinct, distinct-cons, row-has}
 use Rattle.evidence.proofs.Sorted.{Sorted, sort-same, sorted-sort, sorted-distinct}
-use Rattle.evidence.proofs.Ascending.{ascending-unique}
 use Rattle.evidence.specs.Final.{clean, final}
 
 -- u is t without its ambiguous rows

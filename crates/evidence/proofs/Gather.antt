@@ -1,19 +1,11 @@
 -- The same items in any order gather the same members, because each item gives its members whatever stands before it. Assumes nothing.
-use mathlib.Core.Path.{refl, _∙_}
+use mathlib.Core.Path.{refl}
 use mathlib.Core.Logic.{_⊎_, inl, inr}
-use mathlib.Core.List.{List, [], _∷_, _++_, List·Memᴰ, List·Memᴰ·head, List·Memᴰ·tail, List·Memᴰ·not-nil, List·Memᴰ·append-cases, Memᴰ·append-left, Memᴰ·append-right, List·Permᴰ, List·Permᴰ·nil, List·Permᴰ·cons, List·Permᴰ·swap, List·Permᴰ·trans, Permᴰ·symm}
-use Rattle.evidence.specs.Table.{Row, SameMembers}
+use mathlib.Core.List.{List, [], _∷_, List·Memᴰ, List·Memᴰ·head, List·Memᴰ·tail, List·Memᴰ·not-nil, List·Memᴰ·append-cases, Memᴰ·append-left, Memᴰ·append-right, List·Permᴰ, Permᴰ·symm}
+use Rattle.wire.specs.Members.{SameMembers}
+use Rattle.wire.proofs.Members.{perm-mem}
+use Rattle.evidence.specs.Table.{Row}
 use Rattle.evidence.specs.Gather.{gather}
-
--- a list in another order has the same members
-pub perm-mem : {A : Type 0} {x : A} {l l′ : List A} → List·Permᴰ l l′ → List·Memᴰ x l → List·Memᴰ x l′
-perm-mem List·Permᴰ·nil i = i
-perm-mem (List·Permᴰ·cons q p) (List·Memᴰ·head e) = List·Memᴰ·head (e ∙ q)
-perm-mem (List·Permᴰ·cons q p) (List·Memᴰ·tail i) = List·Memᴰ·tail (perm-mem p i)
-perm-mem (List·Permᴰ·swap q p) (List·Memᴰ·head e) = List·Memᴰ·tail (List·Memᴰ·head (e ∙ q))
-perm-mem (List·Permᴰ·swap q p) (List·Memᴰ·tail (List·Memᴰ·head e)) = List·Memᴰ·head (e ∙ p)
-perm-mem (List·Permᴰ·swap q p) (List·Memᴰ·tail (List·Memᴰ·tail i)) = List·Memᴰ·tail (List·Memᴰ·tail i)
-perm-mem (List·Permᴰ·trans p r) i = perm-mem r (perm-mem p i)
 
 module _ {A : Type 0} (f : A → List Row) where
   -- a pair that is gathered is a pair of an item
@@ -37,15 +29,3 @@ module _ {A : Type 0} (f : A → List Row) where
     where
       go : {x : Row} {k k′ : List A} → List·Permᴰ k k′ → (y : A) × List·Memᴰ y k × List·Memᴰ x (f y) → List·Memᴰ x (gather f k′)
       go q (y, i, j) = mem-gather (perm-mem q i) j
-
--- evidence from several sources, one after the other
-pub append-same : {a a′ b b′ : List Row} → SameMembers a a′ → SameMembers b b′ → SameMembers (a ++ b) (a′ ++ b′)
-append-same {a} {a′} {b} {b′} s t = record { to = λ i. to (List·Memᴰ·append-cases a i); from = λ i. from (List·Memᴰ·append-cases a′ i) }
-  where
-    to : {x : Row} → List·Memᴰ x a ⊎ List·Memᴰ x b → List·Memᴰ x (a′ ++ b′)
-    to (inl i) = Memᴰ·append-left b′ (s .to i)
-    to (inr i) = Memᴰ·append-right a′ (t .to i)
-
-    from : {x : Row} → List·Memᴰ x a′ ⊎ List·Memᴰ x b′ → List·Memᴰ x (a ++ b)
-    from (inl i) = Memᴰ·append-left b (s .from i)
-    from (inr i) = Memᴰ·append-right a (t .from i)

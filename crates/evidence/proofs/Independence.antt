@@ -4,10 +4,11 @@ use mathlib.Core.Path.{_≡_, sym}
 use mathlib.Core.Logic.{_≢_, _⊎_, inl, inr, ⊎-elim, by-cases}
 use native.Mathlib.Omega.{arith}
 use lib.ListN.{length}
+use Rattle.wire.proofs.Order.{key?}
+use Rattle.wire.specs.Members.{SameMembers}
+use Rattle.wire.proofs.Members.{same-sym}
 use Rattle.ids.specs.Keys.{Key, zeroKey}
-use Rattle.evidence.proofs.Keys.{key?}
-use Rattle.evidence.specs.Table.{Table, accounts, lookup, Has, SameMembers}
-use Rattle.evidence.proofs.Table.{same-sym}
+use Rattle.evidence.specs.Table.{Table, accounts, lookup, Has}
 use Rattle.evidence.specs.Evidence.{Evidence, recorded, Free, One}
 use Rattle.evidence.proofs.Evidence.{Agree, free-map, one-map, clash-map}
 use Rattle.evidence.proofs.Recording.{recorded-lookup, clash-has, has-clash}

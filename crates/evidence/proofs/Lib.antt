@@ -6,7 +6,6 @@
 --   Bound                T6: `enough`: the passes end
 -- Laws of a definition stand in the module of its name. For code: Lookups (what a search finds after each step), Loops (some items more, passes counted),
 -- Marking (marks transfer by transfer), Written (rows however they were sorted). The rule of the marks stands in Marks and Marking alone. Cases: worked cases.
-pub mod Keys
 pub mod Table
 pub mod Evidence
 pub mod Recording
@@ -15,7 +14,6 @@ pub mod Passes
 pub mod Run
 pub mod Infer
 pub mod Chains
-pub mod Ascending
 pub mod Sorted
 pub mod Final
 pub mod Gather

@@ -8,8 +8,8 @@ use Prim.Native.Nat.{suc}
 use lib.ListN.{length}
 use Rattle.wire.specs.Same.{same}
 use Rattle.wire.proofs.Same.{same-eq, same-ne}
+use Rattle.wire.proofs.Order.{key?}
 use Rattle.ids.specs.Keys.{Key, zeroKey, isZero}
-use Rattle.evidence.proofs.Keys.{key?}
 use Rattle.evidence.specs.Table.{Row, Table, add, lookup, Has, has-here, has-there}
 use Rattle.evidence.proofs.Table.{Found, at, nowhere, found, has-lookup, lacks-lookup, lookup-has, lookup-lacks, has-add, has-new, has-not-lacks, has-one, lacks-add}
 use Rattle.evidence.specs.Evidence.{Evidence, put, note}

@@ -8,10 +8,12 @@ use mathlib.Core.List.{[], _∷_, List·Memᴰ·head, List·Memᴰ·tail, List·
 use Prim.Native.Nat.{ℕ}
 use native.Mathlib.Omega.{arith}
 use Rattle.wire.proofs.Same.{same-eq, same-ne}
+use Rattle.wire.proofs.Order.{key?}
+use Rattle.wire.specs.Members.{SameMembers}
+use Rattle.wire.proofs.Members.{same-sym}
 use Rattle.ids.specs.Keys.{Key}
-use Rattle.evidence.proofs.Keys.{key?}
-use Rattle.evidence.specs.Table.{Row, Table, Has, SameMembers}
-use Rattle.evidence.proofs.Table.{Found, at, nowhere, found, has-one, has-not-lacks, same-sym}
+use Rattle.evidence.specs.Table.{Row, Table, Has}
+use Rattle.evidence.proofs.Table.{Found, at, nowhere, found, has-one, has-not-lacks}
 use Rattle.evidence.specs.Evidence.{Evidence, recorded, Free, One}
 use Rattle.evidence.proofs.Evidence.{free-map, one-map}
 use Rattle.evidence.proofs.Recording.{has-one-recorded, lacks-free}

@@ -2,8 +2,11 @@
 use mathlib.Core.Path.{_≡_, refl, sym, _∙_, ap, ap₂, subst}
 use mathlib.Core.List.{List, [], _∷_, map, List·Memᴰ, List·Memᴰ·head, List·Memᴰ·tail, Memᴰ·map, Memᴰ·of-map, Memᴰ·cast}
 use Prim.Native.Nat.{ℕ}
+use Rattle.wire.specs.Members.{SameMembers}
+use Rattle.wire.specs.Ascending.{Ascending}
+use Rattle.wire.proofs.Ascending.{ascending-map}
 use Rattle.ids.specs.Keys.{Key}
-use Rattle.evidence.specs.Table.{Row, Table, accounts, lookup, Has, SameMembers}
+use Rattle.evidence.specs.Table.{Row, Table, accounts, lookup, Has}
 use Rattle.evidence.proofs.Table.{row-of-has}
 use Rattle.evidence.specs.Evidence.{Evidence, recorded, One}
 use Rattle.evidence.proofs.Recording.{one-has, one-not-zero}
@@ -12,8 +15,6 @@ use Rattle.evidence.specs.Passes.{Transfers}
 use Rattle.evidence.proofs.Infer.{Settled, settled-distinct}
 use Rattle.evidence.specs.Chains.{Chain}
 use Rattle.evidence.proofs.Chains.{settled-sound, complete}
-use Rattle.evidence.specs.Ascending.{Ascending}
-use Rattle.evidence.proofs.Ascending.{ascending-map}
 use Rattle.evidence.proofs.Sorted.{sorted-distinct}
 use Rattle.evidence.specs.Final.{final}
 use Rattle.evidence.proofs.Final.{final-sorted, final-gives, gives-final}

@@ -7,8 +7,11 @@ use mathlib.Core.List.{List, [], List·Memᴰ}
 use Prim.Native.Nat.{ℕ, _≤_}
 use native.Mathlib.Omega.{arith}
 use lib.ListN.{length, length-map}
+use Rattle.wire.specs.Members.{SameMembers}
+use Rattle.wire.specs.Ascending.{Ascending}
+use Rattle.wire.proofs.Ascending.{ascending-once}
 use Rattle.ids.specs.Keys.{Key}
-use Rattle.evidence.specs.Table.{Table, SameMembers}
+use Rattle.evidence.specs.Table.{Table}
 use Rattle.evidence.specs.Evidence.{Evidence, recorded, One, Free}
 use Rattle.evidence.proofs.Evidence.{one-map}
 use Rattle.evidence.specs.Passes.{Transfers}
@@ -16,8 +19,6 @@ use Rattle.evidence.specs.Run.{TableAfter}
 use Rattle.evidence.specs.Infer.{infer}
 use Rattle.evidence.proofs.Infer.{Settled, infer-settled, infer-passes, infer-none, settled-distinct}
 use Rattle.evidence.specs.Chains.{Chain}
-use Rattle.evidence.specs.Ascending.{Ascending}
-use Rattle.evidence.proofs.Ascending.{ascending-once}
 use Rattle.evidence.specs.Final.{final}
 use Rattle.evidence.specs.Independence.{Apart}
 use Rattle.evidence.proofs.Independence.{same-agree, same-room}

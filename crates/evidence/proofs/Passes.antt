@@ -8,8 +8,8 @@ use Prim.Native.Nat.{suc, _≤_}
 use native.Mathlib.Omega.{arith}
 use lib.ListN.{length, length-append}
 use Rattle.wire.proofs.Same.{same-eq, same-ne}
+use Rattle.wire.proofs.Order.{key?}
 use Rattle.ids.specs.Keys.{Key, zeroKey, isZero}
-use Rattle.evidence.proofs.Keys.{key?}
 use Rattle.evidence.specs.Table.{Row, Table, add, Has, Lacks}
 use Rattle.evidence.proofs.Table.{Found, at, nowhere, found, has-not-lacks, has-one}
 use Rattle.evidence.specs.Passes.{Ends, Joined, Transfers, back, fill, forth, joined, pass, spread, step}

@@ -5,8 +5,8 @@ use mathlib.Core.Logic.{_≢_, _⊎_, inl, inr, ⊎-elim, by-cases}
 use mathlib.Core.Bool.{Bool, true, false, cond, _||_, or-true}
 use mathlib.Core.List.{[], _∷_, _++_, append-assoc, append-nil, List·Memᴰ, List·Memᴰ·head, List·Memᴰ·append-cases, List·Memᴰ·not-nil, List·Memᴰ·eq-of-singleton, Memᴰ·append-left, Memᴰ·append-right}
 use Rattle.wire.proofs.Same.{same-eq, same-ne}
+use Rattle.wire.proofs.Order.{key?}
 use Rattle.ids.specs.Keys.{Key, zeroKey, isZero}
-use Rattle.evidence.proofs.Keys.{key?}
 use Rattle.evidence.specs.Table.{Row, Table, add, Has, has-here, has-there, Lacks, lacks-nil, lacks-cons, lookup}
 use Rattle.evidence.proofs.Table.{has-new, has-one, has-not-lacks, has-lookup, lacks-lookup}
 use Rattle.evidence.specs.Evidence.{Evidence, put, note, noteAll, recorded, Says, Free, One, Clash}

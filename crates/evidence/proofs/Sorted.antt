@@ -3,13 +3,14 @@ use mathlib.Core.Path.{_≡_, refl, sym, _∙_, ap, subst}
 use mathlib.Core.Logic.{_≢_, _⊎_, inl, inr, ⊎-map}
 use mathlib.Core.Bool.{Bool, true, false, cond}
 use mathlib.Core.List.{[], _∷_, List·Memᴰ, List·Memᴰ·head, List·Memᴰ·tail, List·Memᴰ·cases-cons, List·Memᴰ·not-nil, Memᴰ·cast, Memᴰ·map, Memᴰ·of-map}
+use Rattle.wire.specs.Order.{Below, ltKey}
+use Rattle.wire.proofs.Order.{below-irrefl, below-trans, Order, less, level, more, order, ltKey-below, ltKey-above}
+use Rattle.wire.specs.Members.{SameMembers}
+use Rattle.wire.specs.Ascending.{Ascending, asc-nil, asc-cons}
+use Rattle.wire.proofs.Ascending.{ascending-unique, ascending-map}
 use Rattle.ids.specs.Keys.{Key}
-use Rattle.evidence.specs.Keys.{Below, ltKey}
-use Rattle.evidence.proofs.Keys.{below-irrefl, below-trans, Order, less, level, more, order, ltKey-below, ltKey-above}
-use Rattle.evidence.specs.Table.{Row, Table, accounts, Lacks, lacks-nil, lacks-cons, SameMembers}
+use Rattle.evidence.specs.Table.{Row, Table, accounts, Lacks, lacks-nil, lacks-cons}
 use Rattle.evidence.proofs.Table.{row-of-has}
-use Rattle.evidence.specs.Ascending.{Ascending, asc-nil, asc-cons}
-use Rattle.evidence.proofs.Ascending.{ascending-unique, ascending-map}
 use Rattle.evidence.proofs.Distinct.{Distinct, distinct-nil, distinct-cons, row-has, Covered}
 use Rattle.evidence.specs.Sorted.{insert, sort}
 

@@ -2,11 +2,11 @@
 use mathlib.Core.Path.{_≡_, refl, sym, _∙_, Σ-path}
 use mathlib.Core.Logic.{_≢_, _⊎_, inl, inr, by-cases}
 use mathlib.Core.Option.{Option, none, some}
-use mathlib.Core.List.{List, [], _∷_, List·Memᴰ, List·Memᴰ·head, List·Memᴰ·tail}
+use mathlib.Core.List.{[], _∷_, List·Memᴰ, List·Memᴰ·head, List·Memᴰ·tail}
 use Rattle.wire.proofs.Same.{same-eq, same-ne}
+use Rattle.wire.proofs.Order.{key?}
 use Rattle.ids.specs.Keys.{Key}
-use Rattle.evidence.proofs.Keys.{key?}
-use Rattle.evidence.specs.Table.{Has, Lacks, SameMembers, Table, add, has-here, has-there, lacks-cons, lacks-nil, lookup}
+use Rattle.evidence.specs.Table.{Has, Lacks, Table, add, has-here, has-there, lacks-cons, lacks-nil, lookup}
 
 -- what a search says of the table
 pub data Found (t : Table) (a : Key) : Option Key → Type 0 where
@@ -97,6 +97,3 @@ add-cases {a} {b} {k} {m} {t} l h = go (has-or-lacks t)
     go : ((j : Key) × Has a j t) ⊎ Lacks a t → Has a k t ⊎ ((a ≡ b) × (k ≡ m))
     go (inl (j, i)) = inl (rw (has-one h (has-add b m i)) i)
     go (inr n) = by-cases (key? a b) (λ e. inr (e, has-one (new e) (has-new m l))) (λ d. absurd (has-not-lacks h (lacks-add m d n)))
-
-pub same-sym : {A : Type 0} {l l′ : List A} → SameMembers l l′ → SameMembers l′ l
-same-sym s = record { to = λ i. s .from i; from = λ i. s .to i }

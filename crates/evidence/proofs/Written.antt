@@ -4,13 +4,13 @@ use mathlib.Core.Logic.{_≢_}
 use mathlib.Core.Option.{some}
 use mathlib.Core.List.{List, List·Memᴰ, Memᴰ·map, Memᴰ·of-map, Memᴰ·cast}
 use Prim.Native.Nat.{ℕ}
+use Rattle.wire.specs.Ascending.{Ascending}
+use Rattle.wire.proofs.Ascending.{ascending-unique}
 use Rattle.ids.specs.Keys.{Key, zeroKey}
 use Rattle.evidence.specs.Table.{Table, lookup}
 use Rattle.evidence.proofs.Table.{has-lookup, lookup-has}
 use Rattle.evidence.proofs.Distinct.{Distinct}
 use Rattle.evidence.specs.Passes.{Transfers}
-use Rattle.evidence.specs.Ascending.{Ascending}
-use Rattle.evidence.proofs.Ascending.{ascending-unique}
 use Rattle.evidence.specs.Final.{final}
 use Rattle.evidence.proofs.Final.{final-has, has-final}
 use Rattle.evidence.specs.Marks.{markOf}

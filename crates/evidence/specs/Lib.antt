@@ -1,19 +1,17 @@
 -- Where an account's mint comes from, in the order of reading:
---   Keys, Table          which of two keys stands below; rows, `lookup`, `Has`, `Lacks`
+--   Table                rows, `lookup`, `Has`, `Lacks`
 --   Evidence             `recorded`: what evidence leaves; `Says`, `Free`, `One`, `Clash`: what it says
 --   Passes, Run, Infer   `step`, `pass`; passes until one adds nothing
 --   Chains               `Chain`: how a mint reaches an account
 --   Sorted, Final        `final`: no ambiguous rows, sorted
 --   Marks, MintTable     `markOf`; `mints`: rows, room, passes
---   Gather, Ascending, Independence   words for the theorems: the same items in any order, ascending rows, `Apart`
-pub mod Keys
+--   Gather, Independence words for the theorems: the same items in any order, `Apart`
 pub mod Table
 pub mod Evidence
 pub mod Passes
 pub mod Run
 pub mod Infer
 pub mod Chains
-pub mod Ascending
 pub mod Sorted
 pub mod Final
 pub mod Gather

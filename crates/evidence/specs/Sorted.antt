@@ -1,7 +1,7 @@
 -- Sorting a table by its accounts. Assumes nothing.
 use mathlib.Core.Bool.{cond}
 use mathlib.Core.List.{[], _∷_}
-use Rattle.evidence.specs.Keys.{ltKey}
+use Rattle.wire.specs.Order.{ltKey}
 use Rattle.evidence.specs.Table.{Row, Table}
 
 -- a row in its place

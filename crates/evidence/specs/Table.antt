@@ -3,7 +3,7 @@ use mathlib.Core.Path.{_≡_}
 use mathlib.Core.Logic.{_≢_}
 use mathlib.Core.Bool.{cond}
 use mathlib.Core.Option.{Option, none, some}
-use mathlib.Core.List.{List, [], _∷_, _++_, map, List·Memᴰ}
+use mathlib.Core.List.{List, [], _∷_, _++_, map}
 use Rattle.wire.specs.Same.{same}
 use Rattle.ids.specs.Keys.{Key}
 
@@ -36,8 +36,3 @@ pub data Has (a m : Key) : Table → Type 0 where
 pub data Lacks (a : Key) : Table → Type 0 where
   lacks-nil : Lacks a []
   lacks-cons : {r : Row} {t : Table} → a ≢ r .0 → Lacks a t → Lacks a (r ∷ t)
-
--- two lists with the same members
-pub record SameMembers {A : Type 0} (l l′ : List A) : Type 0 where
-  pub to : {x : A} → List·Memᴰ x l → List·Memᴰ x l′
-  pub from : {x : A} → List·Memᴰ x l′ → List·Memᴰ x l

@@ -8,8 +8,8 @@ use Prim.Native.Nat.{ℕ, zero, suc, _*_, _≤_, _<_}
 use native.Mathlib.Decide.{ℕ-discrete}
 use native.Mathlib.Omega.{arith}
 use lib.ListN.{length}
+use Rattle.wire.proofs.Order.{key?}
 use Rattle.ids.specs.Keys.{Key, zeroKey}
-use Rattle.evidence.proofs.Keys.{key?}
 use Rattle.evidence.specs.Table.{Table, lookup}
 use Rattle.mints.specs.Bytes.{mintWidth}
 use Rattle.mints.specs.Cells.{accountAt, mintAt, stateAt, stateSays, withMint, withState}

@@ -3,7 +3,7 @@ pub mod Laying
 pub mod Copying
 pub mod Noting
 pub mod Passing
-pub mod Ordering
+pub mod Inserting
 pub mod Writing
 pub mod Sorting
 pub mod Gathering

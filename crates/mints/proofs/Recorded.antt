@@ -9,8 +9,8 @@ use native.Mathlib.Decide.{ℕ-discrete}
 use native.Mathlib.Omega.{arith}
 use lib.ListN.{length}
 use Rattle.wire.proofs.Same.{same-eq, same-ne}
+use Rattle.wire.proofs.Order.{key?}
 use Rattle.ids.specs.Keys.{Key, zeroKey}
-use Rattle.evidence.proofs.Keys.{key?}
 use Rattle.evidence.specs.Table.{Table, lookup}
 use Rattle.evidence.specs.Evidence.{note}
 use Rattle.evidence.proofs.Recording.{note-account, note-mint}

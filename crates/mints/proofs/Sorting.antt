@@ -13,10 +13,10 @@ use borrow.Author.Tests.{ltb-true, lt-ltb, le-ltb}
 use lib.Dec.{ltb}
 use lib.ListN.{length, getD, take, length-append, length-take, length-drop, List·getD-eq-default}
 use lib.Seq.{getD-take}
+use Rattle.wire.specs.Order.{ltKey, Below}
+use Rattle.wire.proofs.Order.{below-trans, Order, order, less, level, more, ltKey-below, ltKey-above, ltKey-true}
+use Rattle.wire.proofs.Ascending.{put-mem, mem-put}
 use Rattle.ids.specs.Keys.{Key}
-use Rattle.evidence.specs.Keys.{ltKey, Below}
-use Rattle.evidence.proofs.Keys.{below-trans, Order, order, less, level, more, ltKey-below, ltKey-above, ltKey-true}
-use Rattle.evidence.proofs.Ascending.{put-mem, mem-put}
 use Rattle.mints.specs.Bytes.{mintWidth}
 use Rattle.mints.specs.Cells.{accountAt, stateAt, Fits}
 use Rattle.mints.specs.Order.{spotIn, Rising, rising-nil, rising-cons, putIn, sortTo}

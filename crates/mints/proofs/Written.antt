@@ -13,9 +13,11 @@ use lib.Dec.{ltb}
 use lib.ListN.{getD, drop}
 use lib.Seq.{take-add, drop-drop}
 use borrow.Author.Tests.{lt-ltb, ltb-true}
+use Rattle.wire.specs.Order.{Below}
+use Rattle.wire.proofs.Order.{ltKey-true, ltKey-false}
+use Rattle.wire.specs.Ascending.{Ascending, asc-nil}
+use Rattle.wire.proofs.Ascending.{ascending-put, ascending-map}
 use Rattle.ids.specs.Keys.{Key, zeroKey}
-use Rattle.evidence.specs.Keys.{Below}
-use Rattle.evidence.proofs.Keys.{ltKey-true, ltKey-false}
 use Rattle.evidence.specs.Table.{Table, lookup}
 use Rattle.evidence.specs.Evidence.{Evidence, recorded}
 use Rattle.evidence.specs.Passes.{Transfers}
@@ -25,8 +27,6 @@ use Rattle.evidence.specs.Marks.{opposed, markOf}
 use Rattle.evidence.specs.MintTable.{MintRow, mintTable, mintIn}
 use Rattle.evidence.proofs.MintTable.{table-mint}
 use Rattle.evidence.proofs.Marking.{mark-zero, mark-filled}
-use Rattle.evidence.specs.Ascending.{Ascending, asc-nil}
-use Rattle.evidence.proofs.Ascending.{ascending-put, ascending-map}
 use Rattle.evidence.proofs.Written as theory
 use Rattle.mints.specs.Cells.{accountAt, mintAt, stateAt, stateSays}
 use Rattle.mints.specs.Order.{spotIn, putIn, sortTo, rowBytes, rowsBytes, shownMint, mintsTo}

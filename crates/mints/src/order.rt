@@ -2,52 +2,12 @@
 use crate::WIDTH;
 ghost use mathlib.Core.Path.{_≡_};
 ghost use Prim.Native.Nat.{suc, _+_, _-_, _*_, _≤_, _<_};
-ghost use mathlib.Core.Bool.{true};
-ghost use lib.ListN.{length, take, drop};
+ghost use lib.ListN.{length, take};
 ghost use lib.Seq.{sets};
 ghost use Rattle.wire.specs.Zeros.{zeros};
-ghost use Rattle.evidence.specs.Keys.{ltKey};
 ghost use Rattle.mints.specs.Bytes.{mintWidth};
 ghost use Rattle.mints.specs.Cells.{Fits};
 ghost use Rattle.mints.specs.Order.{spotIn, Rising, putIn, sortTo, rowsBytes, shownMint, Blank, mintsTo};
-
-// Whether both have eight bytes from place i on, and the same ones: they are compared at once.
-fn alike(a: &[u8], b: &[u8], i: usize) -> bool
-    requires { ⌜ (i < length (now a)) × (i < length (now b)) ⌝ }
-    ensures { λ r. ⌜ (r ≡ true → (i + 8 ≤ length (now (a .entry))) × (take 8 (drop i (now (a .entry))) ≡ take 8 (drop i (now (b .entry))))) ⌝ }
-{
-    if a.len() - i < 8 {
-        return false;
-    }
-    if b.len() - i < 8 {
-        return false;
-    }
-    wire::equal(&a[i..i + 8], &b[i..i + 8])
-}
-
-// Whether a comes before b: the first byte that differs decides. Accounts made in a row differ late, so equal bytes are passed by eight.
-fn less(a: &[u8], b: &[u8]) -> bool
-    ensures { λ r. ⌜ r ≡ ltKey (now (a .entry)) (now (b .entry)) ⌝ }
-{
-    let mut i = 0;
-    while i < a.len() {
-        if b.len() <= i {
-            return false;
-        }
-        if alike(a, b, i) {
-            i += 8;
-            continue;
-        }
-        if a[i] < b[i] {
-            return true;
-        }
-        if b[i] < a[i] {
-            return false;
-        }
-        i += 1;
-    }
-    i < b.len()
-}
 
 // The place of row r among the first k of the ordered rows: before the first whose account is greater. They ascend, so it is found by halving.
 fn spot(table: &[u8], order: &[u32], k: usize, r: usize) -> usize
@@ -60,7 +20,7 @@ fn spot(table: &[u8], order: &[u32], k: usize, r: usize) -> usize
     while low < high {
         let middle = (low + high) / 2;
         let y = order[middle] as usize * WIDTH;
-        if less(&table[x..x + 32], &table[y..y + 32]) {
+        if wire::less(&table[x..x + 32], &table[y..y + 32]) {
             high = middle;
         } else {
             low = middle + 1;

@@ -4,6 +4,7 @@
 use mathlib.Core.List.{flatMap}
 use Rattle.wire.specs.Le.{le, leBytes}
 use Rattle.wire.specs.Same.{same}
+use Rattle.wire.specs.Order.{ltKey}
 use Rattle.ids.specs.Keys.{zeroKey}
 use Rattle.ids.specs.Ids.{ids, isWrappedSol}
 use Rattle.ids.specs.Which.{ofNumber, rowFrom, which, programAt}
@@ -32,7 +33,6 @@ use Rattle.swaps.specs.PumpSwap.{trackVolume, pumpSwap, pumpSwapLeg}
 use Rattle.swaps.specs.AmmV4.{ammV4}
 use Rattle.swaps.specs.Swap.{byProgram, swap}
 use Rattle.swaps.specs.Row.{endBytes, keyBytes, legRow}
-use Rattle.evidence.specs.Keys.{ltKey}
 use Rattle.evidence.specs.Gather.{gather}
 use Rattle.evidence.specs.Table.{lookup}
 use Rattle.evidence.specs.Evidence.{put, note, noteAll, recorded}

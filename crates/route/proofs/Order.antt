@@ -9,11 +9,11 @@ use Prim.Native.Nat.{ℕ, _+_, _*_, _/_, _≤_, _<_}
 use native.Mathlib.Nat.{le-trans}
 use native.Mathlib.Omega.{arith}
 use lib.ListN.{length, length-map}
+use Rattle.wire.specs.Ascending.{Ascending}
+use Rattle.wire.proofs.Ascending.{ascending-once}
 use Rattle.ids.specs.Keys.{Key}
 use Rattle.evidence.specs.Evidence.{Free, One}
 use Rattle.evidence.specs.Chains.{Chain}
-use Rattle.evidence.specs.Ascending.{Ascending}
-use Rattle.evidence.proofs.Ascending.{ascending-once}
 use Rattle.evidence.specs.Independence.{Apart, Unjoined}
 use Rattle.evidence.proofs.Independence.{unjoined-apart}
 use Rattle.evidence.specs.MintTable.{MintAnswer, rowAccounts}

@@ -5,8 +5,8 @@ use mathlib.Core.Path.{_≡_, sym, subst, _∙_}
 use mathlib.Core.Logic.{_↔_}
 use mathlib.Core.List.{List, List·Memᴰ}
 use Prim.Native.Nat.{ℕ}
+use Rattle.wire.proofs.Members.{same-sym}
 use Rattle.ids.specs.Keys.{Key}
-use Rattle.evidence.proofs.Table.{same-sym}
 use Rattle.evidence.specs.Evidence.{Free, One}
 use Rattle.evidence.proofs.Evidence.{free-map}
 use Rattle.evidence.specs.Chains.{Chain}

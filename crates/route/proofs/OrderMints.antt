@@ -10,6 +10,8 @@ use native.Mathlib.Omega.{arith}
 use lib.ListN.{length, drop, length-map, length-drop}
 use lib.Seq.{length-take-le}
 use Rattle.wire.specs.Le.{le}
+use Rattle.wire.specs.Members.{SameMembers}
+use Rattle.wire.proofs.Members.{append-same}
 use Rattle.ids.specs.Keys.{Key, keyCount, keyOf}
 use Rattle.ids.specs.Which.{programAt}
 use Rattle.pack.specs.Sections.{sectionOf}
@@ -18,7 +20,6 @@ use Rattle.pack.specs.View.{balancesIn, viewOf}
 use Rattle.pack.specs.Verdict.{verdict, refusalNumber}
 use Rattle.pack.proofs.Sizes.{keys-length}
 use Rattle.pack.proofs.Good.{passed}
-use Rattle.evidence.specs.Table.{SameMembers}
 use Rattle.evidence.specs.Evidence.{Evidence}
 use Rattle.evidence.specs.Passes.{Transfers, forth, back, Joined, joined}
 use Rattle.evidence.specs.Chains.{Chain, start, along}
@@ -26,7 +27,7 @@ use Rattle.evidence.proofs.Distinct.{covered-length}
 use Rattle.evidence.proofs.Infer.{settled-distinct}
 use Rattle.evidence.proofs.Sorted.{sorted-distinct}
 use Rattle.evidence.proofs.Final.{final-sorted, final-gives}
-use Rattle.evidence.proofs.Gather.{gather-same, append-same}
+use Rattle.evidence.proofs.Gather.{gather-same}
 use Rattle.evidence.specs.MintTable.{MintAnswer, mintTable}
 use Rattle.evidence.proofs.Order.{Made, mints-made, answered-256, row-right, Alike, alike}
 use Rattle.mints.specs.Inference.{balanceSays, says, moves, evidenceOf, transfersOf, inferred}

@@ -7,8 +7,9 @@ ghost use mathlib.Core.Path.{_≡_};
 ghost use Prim.Native.Nat.{_+_, _<_, _≤_};
 ghost use lib.ListN.{length, getD, set, drop};
 ghost use lib.Seq.{sets};
-ghost use Rattle.wire.specs.Le.{le, leBytes, Bytes};
+ghost use Rattle.wire.specs.Le.{le, leBytes, swapped, Bytes};
 ghost use Rattle.wire.specs.Same.{same};
+ghost use Rattle.wire.specs.Order.{ltKey};
 ghost use Rattle.wire.specs.Zeros.{zeros};
 
 // The byte at `at`.
@@ -241,4 +242,53 @@ pub fn equal(a: &[u8], b: &[u8]) -> bool
         i += 8;
     }
     equal_rest(a, b, i)
+}
+
+// Whether a stands below b, both from place `from` on: the first byte that differs decides.
+fn less_rest(a: &[u8], b: &[u8], from: usize) -> bool
+    ensures { λ r. ⌜ r ≡ ltKey (drop from (now (a .entry))) (drop from (now (b .entry))) ⌝ }
+{
+    let mut i = from;
+    while i < a.len() {
+        if b.len() <= i {
+            return false;
+        }
+        let x = a[i];
+        let y = b[i];
+        if x != y {
+            return x < y;
+        }
+        i += 1;
+    }
+    i < b.len()
+}
+
+// The eight bytes of a number in the other order, which the compiler makes one instruction.
+fn swap(x: u64) -> u64
+    ensures { λ r. ⌜ r ≡ swapped 8 x ⌝ }
+{
+    (x % 256) * 72057594037927936
+        + (x / 256 % 256) * 281474976710656
+        + (x / 65536 % 256) * 1099511627776
+        + (x / 16777216 % 256) * 4294967296
+        + (x / 4294967296 % 256) * 16777216
+        + (x / 1099511627776 % 256) * 65536
+        + (x / 281474976710656 % 256) * 256
+        + x / 72057594037927936
+}
+
+// Whether a stands below b. Eight bytes at a time: the first eight that differ decide as a number whose first byte is the greatest.
+pub fn less(a: &[u8], b: &[u8]) -> bool
+    ensures { λ r. ⌜ r ≡ ltKey (now (a .entry)) (now (b .entry)) ⌝ }
+{
+    let mut i = 0;
+    while 8 <= a.len() - i && 8 <= b.len() - i {
+        let x = eight(a, i);
+        let y = eight(b, i);
+        if x != y {
+            return swap(x) < swap(y);
+        }
+        i += 8;
+    }
+    less_rest(a, b, i)
 }

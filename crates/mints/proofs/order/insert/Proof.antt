@@ -1,5 +1,5 @@
 -- Elements move one place to the right, last first, so each is read before it is written over.
-use Rattle.mints.proofs.Ordering.{shift-more, inserted}
+use Rattle.mints.proofs.Inserting.{shift-more, inserted}
 use lib.Seq.{sets}
 use lib.ListN.{length, take, drop, length-set}
 use Prim.Native.Nat.{_+_, _-_, _≤_}

@@ -12,7 +12,7 @@ use Rattle.mints.proofs.order.spot.Statement.{statement}
 use Rattle.mints.proofs.order.spot.Tie as tie
 use Rattle.mints.proofs.order.spot.Reads as reads
 use Rattle.mints.proofs.order.spot.Lts as lts
-use Rattle.mints.proofs.order.less.Reads as less-reads
+use Rattle.wire.proofs.less.Reads as less-reads
 
 abbrev Inv-loop : tie.InvT-loop
 Inv-loop table order k r x low₀ high₀ low high = (x ≡ r * mintWidth) × (high ≤ k) × (low ≤ spotIn table r (take k order)) × (spotIn table r (take k order) ≤ high)

@@ -1,4 +1,5 @@
--- A list that ascends by a key is told by its members, whoever sorted it: the least member has to stand first in both. Assumes nothing.
+-- A list that ascends by a key is told by its members, whoever sorted it: the least member has to stand first in both.
+-- Assumes nothing.
 use mathlib.Core.Path.{_≡_, refl, sym, _∙_, ap, ap₂, subst}
 use mathlib.Core.Logic.{_⊎_, inl, inr, ⊎-map}
 use mathlib.Core.List.{List, [], _∷_, _++_, map, List·Memᴰ, List·Memᴰ·head, List·Memᴰ·tail, List·Memᴰ·cases-cons, List·Memᴰ·not-nil, Memᴰ·of-map}
@@ -6,23 +7,22 @@ use Prim.Native.Nat.{ℕ, zero, suc, _≤_, _<_}
 use native.Mathlib.Nat.{not-suc-le-zero, le-of-suc-le-suc}
 use native.Mathlib.Omega.{arith}
 use lib.ListN.{length, getD, take, drop}
-use Rattle.ids.specs.Keys.{Key}
-use Rattle.evidence.specs.Keys.{Below}
-use Rattle.evidence.proofs.Keys.{below-irrefl, below-trans}
-use Rattle.evidence.specs.Table.{SameMembers}
-use Rattle.evidence.specs.Ascending.{Ascending, asc-cons, asc-nil}
+use Rattle.wire.specs.Order.{Below}
+use Rattle.wire.proofs.Order.{below-irrefl, below-differ, below-trans}
+use Rattle.wire.specs.Members.{SameMembers}
+use Rattle.wire.specs.Ascending.{Ascending, asc-cons, asc-nil}
 
 -- two members with one key are one
-pub ascending-once : {A : Type 0} {key : A → Key} {t : List A} {x y : A} → Ascending key t → List·Memᴰ x t → List·Memᴰ y t → key x ≡ key y → x ≡ y
+pub ascending-once : {A : Type 0} {key : A → List ℕ} {t : List A} {x y : A} → Ascending key t → List·Memᴰ x t → List·Memᴰ y t → key x ≡ key y → x ≡ y
 ascending-once (asc-cons f s) (List·Memᴰ·head d) (List·Memᴰ·head e) k = d ∙ sym e
 ascending-once {A} {key} {x} {y} (asc-cons {r} f s) (List·Memᴰ·head d) (List·Memᴰ·tail j) k =
-    absurd (below-irrefl (subst (λ (a : Key). Below a (key y)) (sym (ap key d) ∙ k) (f y j)))
+    absurd (below-differ (f y j) (sym (ap key d) ∙ k))
 ascending-once {A} {key} {x} {y} (asc-cons {r} f s) (List·Memᴰ·tail i) (List·Memᴰ·head e) k =
-    absurd (below-irrefl (subst (λ (a : Key). Below a (key x)) (sym (ap key e) ∙ sym k) (f x i)))
+    absurd (below-differ (f x i) (sym (ap key e) ∙ sym k))
 ascending-once (asc-cons f s) (List·Memᴰ·tail i) (List·Memᴰ·tail j) k = ascending-once s i j k
 
 -- two ascending lists with the same members are equal
-pub ascending-unique : {A : Type 0} {key : A → Key} {t u : List A} → Ascending key t → Ascending key u → SameMembers t u → t ≡ u
+pub ascending-unique : {A : Type 0} {key : A → List ℕ} {t u : List A} → Ascending key t → Ascending key u → SameMembers t u → t ≡ u
 ascending-unique asc-nil asc-nil s = refl
 ascending-unique asc-nil (asc-cons g su) s = absurd (List·Memᴰ·not-nil (s .from (List·Memᴰ·head refl)))
 ascending-unique (asc-cons f st) asc-nil s = absurd (List·Memᴰ·not-nil (s .to (List·Memᴰ·head refl)))
@@ -48,7 +48,7 @@ ascending-unique {A} {key} (asc-cons {r} {t} f st) (asc-cons {r = x} {t = u} g s
         from i (inr k) = k
 
 -- what a function makes of an ascending list ascends by a key that stays
-pub ascending-map : {A B : Type 0} (g : A → B) (key : B → Key) {t : List A} → Ascending (λ x. key (g x)) t → Ascending key (map g t)
+pub ascending-map : {A B : Type 0} (g : A → B) (key : B → List ℕ) {t : List A} → Ascending (λ x. key (g x)) t → Ascending key (map g t)
 ascending-map g key asc-nil = asc-nil
 ascending-map {A} {B} g key (asc-cons {r} {t} f s) = asc-cons below (ascending-map g key s)
   where
@@ -72,7 +72,7 @@ mem-put r (suc j) (y ∷ t) (inr (List·Memᴰ·head e)) = List·Memᴰ·head e
 mem-put r (suc j) (y ∷ t) (inr (List·Memᴰ·tail i)) = List·Memᴰ·tail (mem-put r j t (inr i))
 
 -- an element put in place j, above the j elements before and below the element there
-pub ascending-put : {A : Type 0} {key : A → Key} {t : List A} (r d : A) (j : ℕ) → Ascending key t → j ≤ length t
+pub ascending-put : {A : Type 0} {key : A → List ℕ} {t : List A} (r d : A) (j : ℕ) → Ascending key t → j ≤ length t
     → ((i : ℕ) → i < j → Below (key (getD t i d)) (key r))
     → (j < length t → Below (key r) (key (getD t j d)))
     → Ascending key (take j t ++ (r ∷ drop j t))
