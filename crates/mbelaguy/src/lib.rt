@@ -1,7 +1,9 @@
-// The library for programs in other languages: a thin skin over `route`.
+// The library for programs in other languages: a thin skin over `route` and `month`.
+use month::MonthAnswer;
 use route::Answer;
 use route::RowsNeeded;
 ghost use mathlib.Core.Path.{_≡_};
+ghost use Rattle.month.specs.Call.{Feeds};
 ghost use Rattle.route.specs.Enough.{needed};
 ghost use Rattle.route.specs.Route.{Leaves};
 
@@ -31,10 +33,23 @@ pub extern "C" fn mbelaguy_room(pack: &[u8]) -> RowsNeeded
     route::room(pack)
 }
 
-// The version, 0.1.0: 65,536 times the first number, 256 times the second, and the third.
+// Feeds transfers into a report of totals, or leaves it as it stood: two numbers of 32 bits, one of 64, one of 32.
+#[no_mangle]
+pub extern "C" fn mbelaguy_month(
+    report: &mut [u8],
+    rows: usize,
+    fed: u32,
+    transfers: &[u8],
+) -> MonthAnswer
+    ensures { λ r. ⌜ Feeds (now (report .entry)) rows fed (now (transfers .entry)) r (now (report .exit)) ⌝ }
+{
+    month::month(report, rows, fed, transfers)
+}
+
+// The version, 0.2.0: 65,536 times the first number, 256 times the second, and the third.
 #[no_mangle]
 pub extern "C" fn mbelaguy_version() -> u32
-    ensures { λ r. ⌜ r ≡ 256 ⌝ }
+    ensures { λ r. ⌜ r ≡ 512 ⌝ }
 {
-    256
+    512
 }
