@@ -10,6 +10,7 @@ pub mod grids;
 pub mod inputs;
 pub mod library;
 pub mod listing;
+pub mod month;
 pub mod oracle;
 pub mod sample;
 pub mod speed;

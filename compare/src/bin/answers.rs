@@ -1,10 +1,11 @@
 //! Stores calls with the oracle's answers, in the form that `stored` describes. `answers FROM TO`
 //! writes those of some seeds, TO not included, to standard output; `answers chosen FOLDER` writes the
-//! ones that crates/replay has, and what `replay` prints then, into a folder.
+//! ones that crates/replay has, and what `replay` prints then, into a folder; `answers months FOLDER`
+//! the calls of month totals that crates/month_replay has, and what `month_replay` prints.
 
 use compare::generate::case;
 use compare::oracle::fit;
-use compare::{chosen, stored};
+use compare::{chosen, month, stored};
 use std::io::{self, BufWriter, Write};
 use std::path::Path;
 use std::process::ExitCode;
@@ -13,7 +14,8 @@ use std::{env, fs};
 fn main() -> ExitCode {
     let words: Vec<String> = env::args().skip(1).collect();
     let written = match &words[..] {
-        [word, folder] if word == "chosen" => write_chosen(Path::new(folder)),
+        [word, folder] if word == "chosen" => write_files(folder, chosen::files()),
+        [word, folder] if word == "months" => write_files(folder, month::chosen::files()),
         [from, to] => match (from.parse(), to.parse()) {
             (Ok(from), Ok(to)) => write_answers(from, to),
             _ => return usage(),
@@ -30,7 +32,7 @@ fn main() -> ExitCode {
 }
 
 fn usage() -> ExitCode {
-    eprintln!("usage: answers FROM TO, or answers chosen FOLDER");
+    eprintln!("usage: answers FROM TO, or answers chosen|months FOLDER");
     ExitCode::FAILURE
 }
 
@@ -44,6 +46,7 @@ fn write_answers(from: u64, to: u64) -> io::Result<()> {
     out.flush()
 }
 
-fn write_chosen(folder: &Path) -> io::Result<()> {
-    chosen::files().into_iter().try_for_each(|(name, bytes)| fs::write(folder.join(name), bytes))
+fn write_files(folder: &str, files: [(&str, Vec<u8>); 2]) -> io::Result<()> {
+    let folder = Path::new(folder);
+    files.into_iter().try_for_each(|(name, bytes)| fs::write(folder.join(name), bytes))
 }

@@ -1,9 +1,9 @@
 //! The quick part of the comparison: cases, ids, 20,000 generated packs, coverage, mutants, stored
-//! answers. The last line says how many checks passed and failed; the exit code is 0 only if none failed.
+//! answers, and of the month totals examples, breaks and stored calls. The last line says how many checks passed and failed; the exit code is 0 only if none failed.
 
 use compare::checks::{
-    cases::CASES, chosen, coverage, ids, inputs, mutants, packs, refusals::REFUSALS, sample,
-    Outcome,
+    cases::CASES, chosen, coverage, ids, inputs, months, mutants, packs, refusals::REFUSALS,
+    sample, Outcome,
 };
 use compare::close;
 use std::process::ExitCode;
@@ -11,9 +11,12 @@ use std::process::ExitCode;
 const SEEDS: u64 = 20_000;
 const SEEDS_PER_CHECK: u64 = 1_000;
 
+/// Months whose calls have to notice each deliberate break of the month totals.
+const MONTHS: u64 = 1_000;
+
 fn main() -> ExitCode {
     let mut tally = Tally::default();
-    for (name, example) in CASES.iter().chain(REFUSALS) {
+    for (name, example) in CASES.iter().chain(REFUSALS).chain(months::EXAMPLES) {
         tally.add(name, example());
     }
     tally.add("the ids are distinct", ids::distinct());
@@ -26,6 +29,9 @@ fn main() -> ExitCode {
     tally.add("the sample in examples/", sample::committed());
     tally.add("the inputs in crates/routes_cases", inputs::committed());
     tally.add("the stored answers in crates/replay", chosen::committed());
+    tally.add("the stored calls in crates/month_replay", months::committed());
+    tally.breaks("no month notices it", months::noticed(0..MONTHS));
+    tally.breaks("no stored call notices it", months::noticed_by_stored());
     for first in (0..SEEDS).step_by(SEEDS_PER_CHECK as usize) {
         tally.add("generated packs", packs::hold(first..first + SEEDS_PER_CHECK));
     }
@@ -54,6 +60,16 @@ struct Tally {
 }
 
 impl Tally {
+    /// The deliberate breaks of the month totals, each of which has to be noticed.
+    fn breaks(&mut self, wrong: &str, found: Result<Vec<(&str, bool)>, String>) {
+        match found {
+            Ok(found) => found.into_iter().for_each(|(name, noticed)| {
+                self.add(name, noticed.then_some(()).ok_or(wrong.to_string()));
+            }),
+            Err(wrong) => self.add("breaks of the month totals", Err(wrong)),
+        }
+    }
+
     fn add(&mut self, name: &str, outcome: Outcome) {
         match outcome {
             Ok(()) => self.passed += 1,

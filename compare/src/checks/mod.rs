@@ -7,6 +7,7 @@ pub mod damaged;
 pub mod ids;
 pub mod inputs;
 pub mod invariants;
+pub mod months;
 pub mod mutants;
 pub mod order;
 pub mod packs;
