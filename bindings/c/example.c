@@ -1,6 +1,7 @@
 /*
  * Builds a pack by hand, routes it and prints each table: a trader wraps 2 SOL, swaps 1.5 of it for a
- * coin, and closes the account. rust/examples/route.rs does the same and prints the same.
+ * coin, and closes the account. Then prints a month in which that happens twice.
+ * rust/examples/route.rs does the same and prints the same.
  */
 #include "mbelaguy.h"
 
@@ -184,6 +185,26 @@ static const char *short_key(const uint8_t *key)
     return text;
 }
 
+/* A sum of 128 bits, in decimal. */
+static const char *sum(const uint8_t *at)
+{
+    static char texts[3][40]; /* so many stand in one line */
+    static int next;
+    uint8_t left[16];
+    char *text = texts[next++ % 3] + 39;
+    memcpy(left, at, sizeof left);
+    do {
+        unsigned rest = 0;
+        for (int k = 15; k >= 0; k--) {
+            rest = rest << 8 | left[k];
+            left[k] = (uint8_t)(rest / 10);
+            rest %= 10;
+        }
+        *--text = (char)('0' + rest);
+    } while (number(left, 8) != 0 || number(left + 8, 8) != 0);
+    return text;
+}
+
 /* The tables that are filled. */
 static uint8_t *mints, *invocations, *transfers, *legs, *natives;
 static mbelaguy_answer answer;
@@ -270,13 +291,23 @@ static void print_native(const uint8_t *row)
     }
 }
 
+static void print_month_line(const uint8_t *row)
+{
+    const uint8_t *mint = row + MBELAGUY_REPORT_MINT, *account = row + MBELAGUY_REPORT_ACCOUNT;
+    printf("month: mint %s account %s debits %s credits %s fees %s apart %" PRIu64 "\n",
+           row[MBELAGUY_REPORT_MINT_FLAG] ? short_key(mint) : "-",
+           row[MBELAGUY_REPORT_ACCOUNT_FLAG] ? short_key(account) : "-", sum(row + MBELAGUY_REPORT_DEBITS),
+           sum(row + MBELAGUY_REPORT_CREDITS), sum(row + MBELAGUY_REPORT_FEES),
+           number(row + MBELAGUY_REPORT_APART, 4));
+}
+
 static void print_rows(const uint8_t *table, uint32_t count, size_t width, void (*print)(const uint8_t *))
 {
     for (uint32_t k = 0; k < count; k++)
         print(table + k * width);
 }
 
-/* Memory for a table, which the call clears. */
+/* Memory for a table or a report, which the call clears. */
 static uint8_t *lend(size_t bytes)
 {
     uint8_t *table = malloc(bytes);
@@ -326,6 +357,24 @@ int main(void)
     print_rows(legs, answer.legs, MBELAGUY_LEG_ROW, print_leg);
     print_rows(natives, answer.natives, MBELAGUY_NATIVE_ROW, print_native);
 
+    /* Two packs' transfers, here twice the same, one behind the other and fed at once. */
+    size_t used = (size_t)answer.transfers * MBELAGUY_TRANSFER_ROW;
+    uint8_t *both = lend(2 * used);
+    memcpy(both, transfers, used);
+    memcpy(both + used, transfers, used);
+    size_t most_lines = (size_t)2 * answer.transfers * 3;
+    size_t report_bytes = most_lines * MBELAGUY_REPORT_ROW;
+    uint8_t *report = lend(report_bytes);
+    mbelaguy_month_answer month = mbelaguy_month(report, report_bytes, 0, 0, both, 2 * used);
+    if (month.number != MBELAGUY_ACCEPTED) {
+        fprintf(stderr, "refusal %" PRIu32 ": %s\n", month.number, mbelaguy_refusal(month.number, month.place));
+        return 1;
+    }
+    printf("transfers fed %" PRIu32 "\n", month.fed);
+    print_rows(report, (uint32_t)month.rows, MBELAGUY_REPORT_ROW, print_month_line);
+
+    free(report);
+    free(both);
     free(mints);
     free(invocations);
     free(transfers);

@@ -1,9 +1,9 @@
 /*
  * Mbelaguy for C, C++ and Swift: which token did a Solana account hold, and who moved what?
  *
- * One transaction goes in as a pack of bytes, five tables of bytes come out. Numbers are
- * little-endian, offsets count from the start of the row or thing described, a key is 32 bytes.
- * docs/FORMAT.md says the same at more length.
+ * One transaction goes in as a pack of bytes, five tables of bytes come out; the transfers of many packs
+ * go into one report, a month's totals. Numbers are little-endian, offsets count from the start of the
+ * row or thing described, a key is 32 bytes. docs/FORMAT.md says the same at more length.
  *
  * Link libmbelaguy.a, which `./library TARGET` makes. It allocates nothing and keeps nothing between
  * calls, so that several threads may call it at once.
@@ -24,8 +24,8 @@ extern "C" {
 
 /* --------------------------------------------------------------- the version */
 
-#define MBELAGUY_VERSION "0.1.0"
-#define MBELAGUY_VERSION_NUMBER 256 /* 65536 * first + 256 * second + third */
+#define MBELAGUY_VERSION "0.2.0"
+#define MBELAGUY_VERSION_NUMBER 512 /* 65536 * first + 256 * second + third */
 
 /* MBELAGUY_VERSION_NUMBER of the library that is linked. */
 uint32_t mbelaguy_version(void);
@@ -81,10 +81,42 @@ typedef struct mbelaguy_rows {
  */
 mbelaguy_rows mbelaguy_room(const uint8_t *pack, size_t pack_length);
 
+/* ----------------------------------------------------------------- the month */
+
+/* What a feed returns. After a refusal rows and fed are what went in. */
+typedef struct mbelaguy_month_answer {
+    uint32_t number; /* 0, or the number of a feed's refusal */
+    uint32_t place;  /* 0, refused or not */
+    uint64_t rows;   /* used rows of the report */
+    uint32_t fed;    /* transfers fed into it, from the first on */
+} mbelaguy_month_answer;
+
+/*
+ * Feeds transfers into a report: what was debited, credited and withheld as fees, for each mint and for
+ * each account of a mint. The report is the caller's, with its used rows and the number of transfers
+ * fed so far; it starts with both 0, whatever its bytes are, and each feed takes what the one before
+ * gave. The transfers are used rows of table 2, of one pack or of several behind one another; they stay
+ * as they are. Rows behind the used ones must not be fed: they would count as transfers. Each pointer is
+ * followed by the number of its bytes, which may be any; where that number is 0 the pointer may be null.
+ * The report does not overlap the transfers. Whatever the bytes are, there is an answer.
+ *
+ * The transfers are fed whole or not at all. After a success all bytes behind the last used row are 0.
+ * After a refusal every byte of the report is as it was: here alone nothing is cleared.
+ *
+ * Feed many packs' rows in one call where you can, because each call reads the whole report once. With
+ * room for three more rows a transfer no feed is refused with MBELAGUY_REFUSED_REPORT_ROWS; with less
+ * the call has to count the new rows beforehand, which takes time. The same transfers leave the same
+ * report in whatever order they come, and however they are cut into feeds.
+ */
+mbelaguy_month_answer mbelaguy_month(
+    uint8_t *report, size_t report_length, size_t rows, uint32_t fed,
+    const uint8_t *transfers, size_t transfers_length);
+
 /* ------------------------------------------------------------------ refusals */
 
-/* Of those that apply, the one with the lowest number is given. */
 #define MBELAGUY_ACCEPTED 0
+
+/* Of a pack. Of those that apply, the one with the lowest number is given. */
 #define MBELAGUY_REFUSED_NAMES 1       /* the names are not 88 bytes */
 #define MBELAGUY_REFUSED_MARK 2        /* the pack is too short or too long, or its mark is another */
 #define MBELAGUY_REFUSED_STARTS 3      /* the starts of the sections break their rule */
@@ -95,9 +127,19 @@ mbelaguy_rows mbelaguy_room(const uint8_t *pack, size_t pack_length);
 #define MBELAGUY_REFUSED_PASSES 7      /* over MBELAGUY_MAX_PASSES; no pack comes near it */
 #define MBELAGUY_REFUSED_ROOM 8        /* place: the lowest table with fewer whole rows than needed */
 
+/* Of a feed. Of those that apply, the one that stands first here is given: 19, 20, 9, 10. */
+#define MBELAGUY_REFUSED_TRANSFER_TABLE 19 /* a partial row, or a flag that is neither 0 nor 1 */
+#define MBELAGUY_REFUSED_REPORT 20         /* fewer whole rows than are said to be used, a flag that is
+                                              neither 0 nor 1, rows that do not ascend, a sum of 2 to the
+                                              96th or more, or a count above the transfers fed; never met
+                                              by a report that this call made from an empty one */
+#define MBELAGUY_REFUSED_REPORT_ROWS 9     /* the report has fewer whole rows than needed */
+#define MBELAGUY_REFUSED_LIMIT 10          /* over MBELAGUY_MAX_FED in all */
+
 #define MBELAGUY_MAX_KEYS 256
 #define MBELAGUY_MAX_INVOCATIONS 1024
 #define MBELAGUY_MAX_PASSES 512
+#define MBELAGUY_MAX_FED 4294967295
 
 /* --------------------------------------------------------------------- names */
 
@@ -261,6 +303,27 @@ mbelaguy_rows mbelaguy_room(const uint8_t *pack, size_t pack_length);
 #define MBELAGUY_KIND_SYNC 2
 #define MBELAGUY_KIND_CLOSE 3
 
+/* -------------------------------------------------------------------- report */
+
+/*
+ * Rows ascend by their first 66 bytes, of which the first that differs decides: a mint's own row, with
+ * account flag 0, comes before those of its accounts. Absent fields are 0.
+ *
+ * Of a transfer the source's row takes the amount as debit; the destination's takes the fee, and the
+ * rest as credit; the mint's takes all three. A transfer whose fee is absent or above its amount is
+ * counted apart, on its mint's row alone, and not summed. So over all mints' rows, and over all
+ * accounts' rows, debits are credits plus fees. Transfers without a mint share rows with mint flag 0.
+ */
+#define MBELAGUY_REPORT_ROW 118
+#define MBELAGUY_REPORT_MINT_FLAG 0       /* 1 where the transfers have a mint */
+#define MBELAGUY_REPORT_MINT 1            /* key */
+#define MBELAGUY_REPORT_ACCOUNT_FLAG 33   /* 1 on an account's row, 0 on the mint's own */
+#define MBELAGUY_REPORT_ACCOUNT 34        /* key */
+#define MBELAGUY_REPORT_DEBITS 66         /* u128: low u64, then high u64 */
+#define MBELAGUY_REPORT_CREDITS 82        /* u128 */
+#define MBELAGUY_REPORT_FEES 98           /* u128 */
+#define MBELAGUY_REPORT_APART 114         /* u32: transfers counted apart; 0 on an account's row */
+
 /* ---------------------------------------------------------- refusals in words */
 
 /* What an answer's number and place mean, for a person to read. */
@@ -268,7 +331,7 @@ static inline const char *mbelaguy_refusal(uint32_t number, uint32_t place)
 {
     switch (number) {
     case MBELAGUY_ACCEPTED:
-        return "the pack is accepted";
+        return "nothing is refused";
     case MBELAGUY_REFUSED_NAMES:
         return "the names are not 88 bytes";
     case MBELAGUY_REFUSED_MARK:
@@ -301,6 +364,16 @@ static inline const char *mbelaguy_refusal(uint32_t number, uint32_t place)
         if (place <= MBELAGUY_TABLE_NATIVES)
             return "it has fewer whole rows than are needed";
         break;
+    case MBELAGUY_REFUSED_TRANSFER_TABLE:
+        return "the transfers end inside a row, or a flag is neither 0 nor 1";
+    case MBELAGUY_REFUSED_REPORT:
+        return "the report has fewer whole rows than are said to be used, a flag is neither 0 nor 1, "
+               "its rows do not ascend, a sum is 2 to the 96th or more, or a count is above the "
+               "transfers fed";
+    case MBELAGUY_REFUSED_REPORT_ROWS:
+        return "the report has fewer whole rows than are needed";
+    case MBELAGUY_REFUSED_LIMIT:
+        return "more than 4,294,967,295 transfers would be fed";
     default:
         break;
     }

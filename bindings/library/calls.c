@@ -2,7 +2,7 @@
  * Calls the library on the machine at hand, from a thread with the stack that a tablet gives a second one.
  *
  *     calls answers FILE   makes stored calls again (crates/replay/stdin) and prints what crates/replay prints of them;
- *                          last, on standard error, how much stack a call took
+ *                          then feeds a month; last, on standard error, how much stack a call took
  *     calls time FILE      prints how long a call takes with the names and the pack of FILE, in nanoseconds
  *
  * calls.mjs does the same with mbelaguy.wasm.
@@ -21,7 +21,11 @@ enum {
     STACK = 512 * 1024,
     LONGEST = 393216, /* bytes of a stored call and its answer */
     AROUND = 64,      /* bytes before and behind a table, which no call may touch */
-    FILL = 165        /* what all bytes are before a call */
+    FILL = 165,       /* what all bytes are before a call */
+    FED = 3100,       /* transfers of a feed; the library takes 1,024 at a time, and counts 3,072 new rows */
+    LINES = FED + 2,  /* rows of its report */
+    TIGHT = LINES * MBELAGUY_REPORT_ROW + 5,
+    WIDE = 3 * FED * MBELAGUY_REPORT_ROW
 };
 
 static const uint32_t WIDTHS[TABLES] = {
@@ -148,6 +152,129 @@ static const char *difference(const uint8_t *record, size_t length)
     return NULL;
 }
 
+/* -------------------------------------------------------------------- month */
+
+static uint8_t transfers[FED * MBELAGUY_TRANSFER_ROW], other[MBELAGUY_TRANSFER_ROW];
+static uint8_t lines[LINES * MBELAGUY_REPORT_ROW]; /* what their report has to be */
+static uint8_t around[AROUND + WIDE + AROUND], before[sizeof around];
+static uint8_t *const report = around + AROUND;
+static size_t report_length;
+
+static void put(uint8_t *at, uint64_t value)
+{
+    for (int k = 0; k < 8; k++)
+        at[k] = (uint8_t)(value >> (8 * k));
+}
+
+/* FED times a little less than 2 to the 64th. */
+static void put_sum(uint8_t *at, uint64_t less)
+{
+    put(at, 0 - FED * less);
+    put(at + 8, FED - 1);
+}
+
+/*
+ * Each transfer is of the greatest amount with a fee of 1, of one mint, from an account of its own, the last account first, to one
+ * account behind them all.
+ */
+static void write_month(void)
+{
+    uint8_t *own = lines, *last = lines + (LINES - 1) * MBELAGUY_REPORT_ROW;
+    for (int k = 0; k < LINES; k++) {
+        uint8_t *row = lines + k * MBELAGUY_REPORT_ROW;
+        row[MBELAGUY_REPORT_MINT_FLAG] = 1;
+        memset(row + MBELAGUY_REPORT_MINT, 3, 32);
+        row[MBELAGUY_REPORT_ACCOUNT_FLAG] = k > 0;
+        row[MBELAGUY_REPORT_ACCOUNT] = (uint8_t)(k >> 8);
+        row[MBELAGUY_REPORT_ACCOUNT + 1] = (uint8_t)k;
+    }
+    put_sum(own + MBELAGUY_REPORT_DEBITS, 1);
+    put_sum(own + MBELAGUY_REPORT_CREDITS, 2);
+    put(own + MBELAGUY_REPORT_FEES, FED);
+    put_sum(last + MBELAGUY_REPORT_CREDITS, 2);
+    put(last + MBELAGUY_REPORT_FEES, FED);
+    for (int k = 1; k <= FED; k++) {
+        uint8_t *row = lines + k * MBELAGUY_REPORT_ROW, *transfer = transfers + (FED - k) * MBELAGUY_TRANSFER_ROW;
+        put(row + MBELAGUY_REPORT_DEBITS, UINT64_MAX);
+        memcpy(transfer + MBELAGUY_TRANSFER_SOURCE, row + MBELAGUY_REPORT_ACCOUNT, 32);
+        memcpy(transfer + MBELAGUY_TRANSFER_DESTINATION, last + MBELAGUY_REPORT_ACCOUNT, 32);
+        memcpy(transfer + MBELAGUY_TRANSFER_MINT_FLAG, row + MBELAGUY_REPORT_MINT_FLAG, 33);
+        put(transfer + MBELAGUY_TRANSFER_AMOUNT, UINT64_MAX);
+        transfer[MBELAGUY_TRANSFER_FEE_FLAG] = 1;
+        put(transfer + MBELAGUY_TRANSFER_FEE, 1);
+    }
+}
+
+/* A feed into the report as it stands, and what it has to answer. */
+static void feed(size_t rows, uint32_t fed, const uint8_t *from, size_t length, mbelaguy_month_answer wanted)
+{
+    memcpy(before, around, sizeof around);
+    mbelaguy_month_answer answer = mbelaguy_month(report, report_length, rows, fed, from, length);
+    if (answer.number != wanted.number || answer.place != wanted.place || answer.rows != wanted.rows || answer.fed != wanted.fed)
+        fail("another answer to a feed");
+    if (answer.number != 0 && memcmp(around, before, sizeof around) != 0)
+        fail("a refused feed changed the report");
+    if (answer.number == 0 && (memcmp(report, lines, sizeof lines) != 0 || !all(report + sizeof lines, report_length - sizeof lines, 0)))
+        fail("another report");
+    if (!all(around, AROUND, FILL) || !all(report + report_length, AROUND, FILL))
+        fail("bytes around the report were written");
+}
+
+static void accepted(size_t rows, uint32_t fed, const uint8_t *from, size_t length)
+{
+    feed(rows, fed, from, length, (mbelaguy_month_answer){0, 0, LINES, FED});
+}
+
+static void refused(uint32_t number, size_t rows, uint32_t fed, const uint8_t *from, size_t length)
+{
+    feed(rows, fed, from, length, (mbelaguy_month_answer){number, 0, rows, fed});
+}
+
+/* Bytes that are spoilt for one feed. */
+static void spoilt(uint32_t number, uint8_t *byte, uint8_t by)
+{
+    uint8_t good = *byte;
+    *byte = by;
+    refused(number, LINES, FED, transfers, sizeof transfers);
+    *byte = good;
+}
+
+static void check_month(void)
+{
+    mbelaguy_month_answer none = mbelaguy_month(NULL, 0, 0, 0, NULL, 0);
+    if (none.number != 0 || none.place != 0 || none.rows != 0 || none.fed != 0)
+        fail("another answer to a feed where all is empty");
+    write_month();
+    if (mbelaguy_month(NULL, 0, 0, 0, transfers, sizeof transfers).number != MBELAGUY_REFUSED_REPORT_ROWS
+        || mbelaguy_month(NULL, 0, 1, 0, NULL, 0).number != MBELAGUY_REFUSED_REPORT)
+        fail("another answer to a feed where the report is empty");
+    memset(around, FILL, sizeof around);
+    report_length = WIDE;
+    accepted(0, 0, transfers, sizeof transfers);
+    memset(around, FILL, sizeof around);
+    report_length = TIGHT;
+    accepted(0, 0, transfers, sizeof transfers);
+    memset(report + sizeof lines, FILL, TIGHT - sizeof lines);
+    accepted(LINES, FED, NULL, 0);
+    memset(report + sizeof lines, FILL, TIGHT - sizeof lines);
+
+    refused(MBELAGUY_REFUSED_TRANSFER_TABLE, LINES, FED, transfers, sizeof transfers - 1);
+    spoilt(MBELAGUY_REFUSED_TRANSFER_TABLE, transfers + MBELAGUY_TRANSFER_MINT_FLAG, 2);
+    spoilt(MBELAGUY_REFUSED_TRANSFER_TABLE, transfers + MBELAGUY_TRANSFER_FEE_FLAG, 2);
+    refused(MBELAGUY_REFUSED_REPORT, LINES + 1, FED, transfers, sizeof transfers);
+    refused(MBELAGUY_REFUSED_REPORT, SIZE_MAX, FED, NULL, 0);
+    spoilt(MBELAGUY_REFUSED_REPORT, report + (LINES - 1) * MBELAGUY_REPORT_ROW + MBELAGUY_REPORT_ACCOUNT_FLAG, 2);
+    spoilt(MBELAGUY_REFUSED_REPORT, report + MBELAGUY_REPORT_ROW + MBELAGUY_REPORT_MINT, 2);
+    spoilt(MBELAGUY_REFUSED_REPORT, report + MBELAGUY_REPORT_DEBITS + 12, 1);
+    spoilt(MBELAGUY_REFUSED_REPORT, report + MBELAGUY_REPORT_APART + 3, 1);
+    memcpy(other, transfers, sizeof other);
+    other[MBELAGUY_TRANSFER_DESTINATION] = 255;
+    refused(MBELAGUY_REFUSED_REPORT_ROWS, LINES, MBELAGUY_MAX_FED, other, sizeof other);
+    refused(MBELAGUY_REFUSED_LIMIT, LINES, MBELAGUY_MAX_FED, transfers, MBELAGUY_TRANSFER_ROW);
+}
+
+/* -------------------------------------------------------------- all answers */
+
 /* How far below this function's caller the stack was written, at any time. */
 static size_t depth(void)
 {
@@ -172,6 +299,7 @@ static void *answers(void *unused)
         at += 4 + (length <= left ? length : left);
     }
     printf("%u answers, %u different\n", count, different);
+    check_month();
     fprintf(stderr, "a call took %zu bytes of stack\n", depth());
     if (depth() > MBELAGUY_STACK)
         fail("that is more than the header says");

@@ -1,7 +1,7 @@
 // Calls mbelaguy.wasm, as calls.c does the library:
 //
 //     node calls.mjs WASM answers FILE    makes stored calls again and prints what crates/replay prints of them;
-//                                         last, on standard error, how much stack a call took
+//                                         then feeds a month; last, on standard error, how much stack a call took
 //     node calls.mjs WASM time FILE       prints how long a call takes with the names and the pack of FILE, in nanoseconds
 //
 // All buffers lie in the module's memory, from __heap_base on; the answer goes to an address that comes before the other arguments.
@@ -12,6 +12,8 @@ const MOST = [17408, 24576, 154624, 257024, 112640]; // bytes that a table is le
 const LONGEST = 393216; // bytes of a stored call and its answer
 const AROUND = 64; // bytes before and behind a table, which no call may touch
 const FILL = 165; // what all bytes are before a call
+const FED = 3100; // transfers of a feed; the library takes 1,024 at a time, and counts 3,072 new rows
+const LINES = FED + 2; // rows of its report
 const UNFIT = "cut off, or too long for this program";
 
 const [wasm, what, path] = process.argv.slice(2);
@@ -29,12 +31,15 @@ const fail = (text) => {
     process.exitCode = 1;
 };
 
-// Where things are: the answer, names and pack, and each table between bytes that are not lent.
+// Where things are: the answer, names and pack, each table between bytes that are not lent; likewise a report, then the transfers for it.
 const base = library.__heap_base.value;
 const answerAt = (base + 15) & ~15;
 const packAt = answerAt + 64;
 let end = packAt + LONGEST;
 const tablesAt = MOST.map((most) => (end += AROUND + most + AROUND) - AROUND - most);
+const [TIGHT, WIDE] = [LINES * defined("REPORT_ROW") + 5, 3 * FED * defined("REPORT_ROW")];
+const [reportAt, transfersAt] = [end + AROUND, end + AROUND + WIDE + AROUND];
+end = transfersAt + FED * defined("TRANSFER_ROW");
 const missing = end - library.memory.buffer.byteLength;
 if (missing > 0) library.memory.grow(Math.ceil(missing / 65536));
 const memory = new Uint8Array(library.memory.buffer);
@@ -90,6 +95,100 @@ function difference(record) {
     return null;
 }
 
+// What calls.c feeds, and its report: each transfer is of the greatest amount with a fee of 1, of one mint, from an account of its own, the last
+// account first, to one account behind them all.
+function month() {
+    const [report, transfers] = [Buffer.alloc(LINES * defined("REPORT_ROW")), Buffer.alloc(FED * defined("TRANSFER_ROW"))];
+    const sum = (value, at) => {
+        report.writeBigUInt64LE(BigInt.asUintN(64, value), at);
+        report.writeBigUInt64LE(value >> 64n, at + 8);
+    };
+    const most = 2n ** 64n - 1n;
+    for (let k = 0; k < LINES; k++) {
+        const row = k * defined("REPORT_ROW");
+        report.fill(3, row + defined("REPORT_MINT"), row + defined("REPORT_MINT") + 32);
+        report[row + defined("REPORT_MINT_FLAG")] = 1;
+        report[row + defined("REPORT_ACCOUNT_FLAG")] = Number(k > 0);
+        report.writeUInt16BE(k, row + defined("REPORT_ACCOUNT"));
+        if (k === 0) sum(BigInt(FED) * most, row + defined("REPORT_DEBITS"));
+        else if (k <= FED) sum(most, row + defined("REPORT_DEBITS"));
+        if (k === 0 || k > FED) {
+            sum(BigInt(FED) * (most - 1n), row + defined("REPORT_CREDITS"));
+            sum(BigInt(FED), row + defined("REPORT_FEES"));
+        }
+    }
+    for (let k = 0; k < FED; k++) {
+        const row = k * defined("TRANSFER_ROW");
+        transfers.writeUInt16BE(FED - k, row + defined("TRANSFER_SOURCE"));
+        transfers.writeUInt16BE(FED + 1, row + defined("TRANSFER_DESTINATION"));
+        transfers[row + defined("TRANSFER_MINT_FLAG")] = 1;
+        transfers.fill(3, row + defined("TRANSFER_MINT"), row + defined("TRANSFER_MINT") + 32);
+        transfers.writeBigUInt64LE(most, row + defined("TRANSFER_AMOUNT"));
+        transfers[row + defined("TRANSFER_FEE_FLAG")] = 1;
+        transfers.writeBigUInt64LE(1n, row + defined("TRANSFER_FEE"));
+    }
+    return [report, transfers];
+}
+
+// A feed of so many bytes of the transfers as they stand: number, place, rows and fed.
+function feed(report, rows, fed, length) {
+    library.mbelaguy_month(answerAt, ...from(reportAt, report), rows, fed, ...from(transfersAt, length));
+    const answer = new DataView(memory.buffer, answerAt);
+    return [answer.getUint32(0, true), answer.getUint32(4, true), Number(answer.getBigUint64(8, true)), answer.getUint32(16, true)];
+}
+
+function checkMonth() {
+    const [report, transfers] = month();
+    const refusals = Object.fromEntries(["TRANSFER_TABLE", "REPORT", "REPORT_ROWS", "LIMIT"].map((name) => [name, defined(`REFUSED_${name}`)]));
+    const same = (one, other) => one.every((number, k) => number === other[k]);
+    const lent = memory.subarray(reportAt - AROUND, reportAt + WIDE + AROUND);
+    // A feed that is refused: all bytes stay.
+    const refused = (number, rows, fed, length) => {
+        const before = lent.slice();
+        if (!same(feed(TIGHT, rows, fed, length), [number, 0, rows, fed])) fail("another answer to a feed");
+        if (Buffer.compare(lent, before) !== 0) fail("a refused feed changed the report");
+    };
+    // A byte that is spoilt for one feed.
+    const spoilt = (number, at, by) => {
+        const good = memory[at];
+        memory[at] = by;
+        refused(number, LINES, FED, transfers.length);
+        memory[at] = good;
+    };
+    // A feed that leaves the report that it has to be. The bytes behind its rows are filled again.
+    const accepted = (room, rows, fed, length) => {
+        const [used, stop] = [reportAt + report.length, reportAt + room];
+        if (!same(feed(room, rows, fed, length), [0, 0, LINES, FED])) fail("another answer to a feed");
+        if (report.compare(memory, reportAt, used) !== 0 || !all(used, stop, 0)) fail("another report");
+        if (!all(reportAt - AROUND, reportAt, FILL) || !all(stop, stop + AROUND, FILL)) fail("bytes around the report were written");
+        memory.fill(FILL, used, stop);
+    };
+
+    memory.set(transfers, transfersAt);
+    if (!same(feed(0, 0, 0, 0), [0, 0, 0, 0])) fail("another answer to a feed where all is empty");
+    if (!same(feed(0, 0, 0, transfers.length), [refusals.REPORT_ROWS, 0, 0, 0]) || !same(feed(0, 1, 0, 0), [refusals.REPORT, 0, 1, 0])) {
+        fail("another answer to a feed where the report is empty");
+    }
+    lent.fill(FILL);
+    accepted(WIDE, 0, 0, transfers.length);
+    lent.fill(FILL);
+    accepted(TIGHT, 0, 0, transfers.length);
+    accepted(TIGHT, LINES, FED, 0);
+
+    refused(refusals.TRANSFER_TABLE, LINES, FED, transfers.length - 1);
+    spoilt(refusals.TRANSFER_TABLE, transfersAt + defined("TRANSFER_MINT_FLAG"), 2);
+    spoilt(refusals.TRANSFER_TABLE, transfersAt + defined("TRANSFER_FEE_FLAG"), 2);
+    refused(refusals.REPORT, LINES + 1, FED, transfers.length);
+    refused(refusals.REPORT, 2 ** 32 - 1, FED, 0);
+    spoilt(refusals.REPORT, reportAt + (LINES - 1) * defined("REPORT_ROW") + defined("REPORT_ACCOUNT_FLAG"), 2);
+    spoilt(refusals.REPORT, reportAt + defined("REPORT_ROW") + defined("REPORT_MINT"), 2);
+    spoilt(refusals.REPORT, reportAt + defined("REPORT_DEBITS") + 12, 1);
+    spoilt(refusals.REPORT, reportAt + defined("REPORT_APART") + 3, 1);
+    refused(refusals.LIMIT, LINES, defined("MAX_FED"), defined("TRANSFER_ROW"));
+    memory[transfersAt + defined("TRANSFER_DESTINATION")] = 255;
+    refused(refusals.REPORT_ROWS, LINES, defined("MAX_FED"), defined("TRANSFER_ROW"));
+}
+
 function answers() {
     // The stack lies below the module's data, which is less than 64 KB: the lowest byte that is no longer as it was tells how far it went.
     const top = base - (base % 65536);
@@ -104,6 +203,7 @@ function answers() {
         at += 4 + record.length;
     }
     console.log(`${count} answers, ${different} different`);
+    checkMonth();
     const depth = top - memory.findIndex((byte) => byte !== FILL);
     console.error(`a call took ${depth} bytes of stack`);
     if (depth > defined("STACK")) fail("that is more than the header says");

@@ -103,4 +103,7 @@ def fit(module, here, there):
         skins.append(skin(name, proved, bool(declared[name].struct), wanted[name]))
         module = re.sub(rf"^define (.*) @{name}\(", rf'define internal \1 @"{name} as proved"(', module, flags=re.M)
     machine, structs = MACHINE.findall(there), STRUCTS.findall(there)
+    # Else the fields of a struct may lie at other places.
+    if "-i64:64-" not in "".join(machine):
+        raise Unfit("the target has numbers of 64 bits at other places than multiples of 8")
     return "".join([*machine, PROCESSOR.sub("", MACHINE.sub("", module)), *structs, *skins])

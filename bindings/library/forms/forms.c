@@ -33,6 +33,9 @@ int forms(void)
         return 9;
     if (give_size(0xfffffff0) != 0xfffffff0)
         return 10;
+    form_six six = give_six(&byte, 1, 0xfffffff1, 0xfffffff0, &byte, 0xfffffff2);
+    if (six.a != 0xfffffff0 || six.b != 0xfffffff1 || six.c != 0xfffffff2)
+        return 11;
     return 0;
 }
 

@@ -23,16 +23,23 @@ typedef struct form_five {
     uint32_t c;
 } form_five;
 
+typedef struct form_six {
+    uint32_t a;
+    uint64_t b;
+    uint32_t c;
+} form_six;
+
 typedef struct form_bytes {
     uint8_t a, b, c;
 } form_bytes;
 
-/* Each gives its argument and the numbers that follow it. */
+/* Each gives its argument and the numbers that follow it; with six arguments, three of them. */
 form_one give_one(uint32_t a);
 form_two give_two(uint32_t a);
 form_three give_three(uint32_t a);
 form_four give_four(uint64_t a);
 form_five give_five(uint64_t a);
+form_six give_six(uint8_t *to, size_t length, size_t b, uint32_t a, const uint8_t *from, size_t c);
 form_bytes give_bytes(uint8_t a);
 
 void give_nothing(uint8_t *to, uint8_t byte);

@@ -62,6 +62,17 @@ start:
   ret ptr %a0
 }
 
+define noundef ptr @give_six(ptr noundef %a0, ptr noundef %a1, i64 noundef %a2, i64 noundef %a3, i32 noundef %a4, ptr noundef %a5, i64 noundef %a6) #0 {
+start:
+  store i32 %a4, ptr %a0, align 8
+  %r0 = getelementptr i8, ptr %a0, i64 8
+  store i64 %a3, ptr %r0, align 8
+  %r1 = getelementptr i8, ptr %a0, i64 16
+  %r2 = trunc i64 %a6 to i32
+  store i32 %r2, ptr %r1, align 8
+  ret ptr %a0
+}
+
 define i24 @give_bytes(i8 noundef %a0) #0 {
 start:
   %r0 = alloca [3 x i8], align 1

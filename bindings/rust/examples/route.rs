@@ -1,9 +1,10 @@
 //! Builds a pack from plain values, routes it and prints each table: a trader wraps 2 SOL, swaps 1.5
-//! of it for a coin, and closes the account. c/example.c does the same in C and prints the same.
+//! of it for a coin, and closes the account. Then prints a month in which that happens twice.
+//! c/example.c does the same in C and prints the same.
 
 use mbelaguy::pack::{Balance, Group, Inner, Instruction, KeyRow, Pack};
 use mbelaguy::rows::{Action, Invocation, Leg, Mint, MintRow, Native, Transfer};
-use mbelaguy::{base58, ids, route, Key, Names, Tables};
+use mbelaguy::{base58, ids, route, Key, Month, MonthLine, Names, Table, Tables};
 use std::error::Error;
 
 /// Indexes into the keys.
@@ -32,6 +33,12 @@ fn main() -> Result<(), Box<dyn Error>> {
     tables.transfers().for_each(print_transfer);
     tables.legs().for_each(print_leg);
     tables.natives().for_each(print_native);
+
+    // Two packs' transfers, here twice the same, one behind the other and fed at once.
+    let mut month = Month::new();
+    month.feed(&tables.used(Table::Transfers).repeat(2))?;
+    println!("transfers fed {}", month.fed());
+    month.lines().for_each(print_month_line);
     Ok(())
 }
 
@@ -130,6 +137,19 @@ fn print_native(row: Native) {
             println!("close to {} by {}", short(&destination), short(&authority))
         }
     }
+}
+
+fn print_month_line(line: MonthLine) {
+    let key = |key: Option<Key>| key.map_or("-".to_string(), |key| short(&key));
+    println!(
+        "month: mint {} account {} debits {} credits {} fees {} apart {}",
+        key(line.mint),
+        key(line.account),
+        line.debits,
+        line.credits,
+        line.fees,
+        line.apart
+    );
 }
 
 /// A mint and its mark, or '-' where there is none.

@@ -1,4 +1,4 @@
-//! The nine numbers that a call returns.
+//! The numbers that a call returns.
 
 use crate::Refusal;
 
@@ -35,6 +35,39 @@ impl Answer {
 
     /// The refusal, if it is one.
     pub fn refusal(&self) -> Option<Refusal> {
-        (self.number != 0).then(|| Refusal::of(self.number, self.place))
+        refusal(self.number, self.place)
     }
+}
+
+/// What a feed of transfers returns: number 0, or a refusal's number with rows and fed as they went in.
+///
+/// ```
+/// use mbelaguy::{MonthAnswer, Refusal};
+///
+/// let answer = MonthAnswer { number: 9, rows: 2, fed: 3, ..MonthAnswer::default() };
+/// assert_eq!(answer.refusal(), Some(Refusal::ReportRows));
+/// assert_eq!(MonthAnswer::default().refusal(), None);
+/// ```
+#[repr(C)]
+#[derive(Clone, Copy, Debug, Default, PartialEq, Eq)]
+pub struct MonthAnswer {
+    /// 0, or the refusal's number.
+    pub number: u32,
+    /// 0, refused or not.
+    pub place: u32,
+    /// Used rows of the report.
+    pub rows: u64,
+    /// Transfers fed into it, from the first on.
+    pub fed: u32,
+}
+
+impl MonthAnswer {
+    /// The refusal, if it is one.
+    pub fn refusal(&self) -> Option<Refusal> {
+        refusal(self.number, self.place)
+    }
+}
+
+fn refusal(number: u32, place: u32) -> Option<Refusal> {
+    (number != 0).then(|| Refusal::of(number, place))
 }

@@ -6,10 +6,13 @@
 //! reads them as typed rows, each mint with its mark ([`rows::Mint`]). docs/FORMAT.md has all of it
 //! byte by byte.
 //!
+//! A [`Month`] takes the transfers of many packs and sums them, by mint and by account, to the last unit.
+//!
 //! Whatever goes in, nothing here panics: what the library refuses is a [`Refusal`], what does not
 //! fit into a pack a [`pack::DoesNotFit`], bytes that are no table a [`BadTable`].
 //!
-//! Only [`route`] and [`room`] need the static library. Without the feature `link` the rest stands by itself.
+//! Only [`route`], [`room`] and [`Month::feed`] need the static library. Without the feature `link` the
+//! rest stands by itself.
 //!
 //! A port of `transaction_route.rs` of sol-parser-sdk, under the original's MIT licence: see NOTICE.
 
@@ -21,6 +24,7 @@ mod bytes;
 pub mod ids;
 #[cfg(feature = "link")]
 mod library;
+mod month;
 mod names;
 pub mod pack;
 mod refusal;
@@ -28,9 +32,10 @@ pub mod rows;
 mod tables;
 mod version;
 
-pub use answer::Answer;
+pub use answer::{Answer, MonthAnswer};
 #[cfg(feature = "link")]
-pub use library::{room, route, route_into};
+pub use library::{month_into, room, route, route_into};
+pub use month::{Month, MonthLine, Totals, REPORT_ROW};
 pub use names::Names;
 pub use refusal::{Refusal, Section, Table};
 pub use tables::{BadTable, Tables, MOST_ROWS, WIDTHS};
@@ -49,3 +54,6 @@ pub const MAX_INVOCATIONS: usize = 1_024;
 
 /// The most passes over the plain transfers. No pack comes near it.
 pub const MAX_PASSES: usize = 512;
+
+/// The most transfers that are fed into one [`Month`].
+pub const MAX_FED: u32 = 4_294_967_295;

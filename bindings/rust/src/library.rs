@@ -1,6 +1,6 @@
 //! The calls of the library.
 
-use crate::{Answer, Refusal, Tables};
+use crate::{Answer, MonthAnswer, Refusal, Tables};
 
 /// Rows that suffice, as the library answers them.
 #[repr(C)]
@@ -29,6 +29,15 @@ extern "C" {
     ) -> Answer;
 
     fn mbelaguy_room(pack: *const u8, pack_length: usize) -> Needed;
+
+    fn mbelaguy_month(
+        report: *mut u8,
+        report_length: usize,
+        rows: usize,
+        fed: u32,
+        transfers: *const u8,
+        transfers_length: usize,
+    ) -> MonthAnswer;
 }
 
 /// Fills the tables from a pack. After a refusal they are empty.
@@ -121,6 +130,38 @@ pub fn room(pack: &[u8]) -> Result<[usize; 5], Refusal> {
     match needed.number {
         0 => Ok(needed.rows.map(|rows| rows as usize)),
         number => Err(Refusal::of(number, needed.place)),
+    }
+}
+
+/// A feed as the library has it: a report of any length with its used rows and the transfers fed so
+/// far, and the answer as it comes. After a refusal every byte of the report is as it was. A
+/// [`Month`](crate::Month) sees to all that.
+///
+/// ```
+/// use mbelaguy::{month_into, Refusal, REPORT_ROW};
+///
+/// // A transfer whose fee is unknown: one row is used, the rest is 0.
+/// let mut report = vec![255; 3 * REPORT_ROW];
+/// let answer = month_into(&mut report, 0, 0, &[0; 150]);
+/// assert_eq!((answer.number, answer.rows, answer.fed), (0, 1, 1));
+/// assert_eq!(report.iter().position(|byte| *byte != 0), Some(114));
+///
+/// let answer = month_into(&mut report, 1, 1, &[0; 149]);
+/// assert_eq!(answer.refusal(), Some(Refusal::TransferTable));
+/// assert_eq!((answer.rows, answer.fed), (1, 1));
+/// ```
+pub fn month_into(report: &mut [u8], rows: usize, fed: u32, transfers: &[u8]) -> MonthAnswer {
+    // SAFETY: as in `route_into`: each pointer and length are those of one slice, and the one that is
+    // written does not overlap the other.
+    unsafe {
+        mbelaguy_month(
+            report.as_mut_ptr(),
+            report.len(),
+            rows,
+            fed,
+            transfers.as_ptr(),
+            transfers.len(),
+        )
     }
 }
 

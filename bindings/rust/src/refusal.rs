@@ -3,7 +3,7 @@
 use std::error::Error;
 use std::fmt;
 
-/// A refusal. Of those that apply, the one with the lowest number is given.
+/// A refusal. Of those that apply, the one that stands first here is given.
 ///
 /// ```
 /// use mbelaguy::{Refusal, Section};
@@ -33,6 +33,16 @@ pub enum Refusal {
     Passes,
     /// 8: the lowest table that has fewer whole rows than are needed.
     Room(Table),
+    /// 19, of a feed: the transfers end inside a row, or a flag is neither 0 nor 1.
+    TransferTable,
+    /// 20, of a feed: the report has fewer whole rows than are said to be used, a flag that is neither 0
+    /// nor 1, rows that do not ascend, a sum of 2 to the 96th or more, or a count above the transfers
+    /// fed.
+    Report,
+    /// 9, of a feed: the report has fewer whole rows than are needed.
+    ReportRows,
+    /// 10, of a feed: over 4,294,967,295 transfers in all.
+    Limit,
     /// A number or place that this crate does not know: the library is of another release.
     Unknown {
         /// The number.
@@ -95,6 +105,10 @@ impl Refusal {
             (6, 0) => Self::Invocations,
             (7, 0) => Self::Passes,
             (8, 0..5) => Self::Room(Table::ALL[place as usize]),
+            (19, 0) => Self::TransferTable,
+            (20, 0) => Self::Report,
+            (9, 0) => Self::ReportRows,
+            (10, 0) => Self::Limit,
             _ => Self::Unknown { number, place },
         }
     }
@@ -110,6 +124,10 @@ impl Refusal {
             Self::Invocations => 6,
             Self::Passes => 7,
             Self::Room(_) => 8,
+            Self::TransferTable => 19,
+            Self::Report => 20,
+            Self::ReportRows => 9,
+            Self::Limit => 10,
             Self::Unknown { number, .. } => number,
         }
     }
@@ -145,6 +163,16 @@ impl Refusal {
             Self::Invocations => "there are more than 1,024 invocations",
             Self::Passes => "there would be more than 512 passes over the plain transfers",
             Self::Room(_) => "it has fewer whole rows than are needed",
+            Self::TransferTable => {
+                "the transfers end inside a row, or a flag is neither 0 nor 1"
+            }
+            Self::Report => {
+                "the report has fewer whole rows than are said to be used, a flag is neither 0 nor 1, \
+                 its rows do not ascend, a sum is 2 to the 96th or more, or a count is above the \
+                 transfers fed"
+            }
+            Self::ReportRows => "the report has fewer whole rows than are needed",
+            Self::Limit => "more than 4,294,967,295 transfers would be fed",
             Self::Unknown { .. } => "not known here; the library is of another release",
         }
     }

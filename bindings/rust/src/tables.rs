@@ -114,9 +114,15 @@ impl Tables {
         &self.bytes[table as usize]
     }
 
+    /// The bytes of a table's used rows.
+    pub fn used(&self, table: Table) -> &[u8] {
+        let (bytes, t) = (self.bytes(table), table as usize);
+        &bytes[..bytes.len().min(self.counts[t].saturating_mul(WIDTHS[t]))]
+    }
+
     /// The mint that table 0 has of an account, or why it has none.
     pub(crate) fn mint(&self, account: &Key) -> Mint {
-        let rows = self.used::<MintRow>();
+        let rows = self.used(Table::Mints);
         let width = WIDTHS[Table::Mints as usize];
         let (mut low, mut high) = (0, rows.len() / width);
         while low < high {
@@ -141,14 +147,7 @@ impl Tables {
     }
 
     fn rows<R: Row>(&self) -> Rows<'_, R> {
-        Rows::new(self.used::<R>(), self)
-    }
-
-    /// The bytes of a table's used rows, as many as there are up to their count.
-    fn used<R: Row>(&self) -> &[u8] {
-        let t = R::TABLE as usize;
-        let used = self.bytes[t].len().min(self.counts[t].saturating_mul(WIDTHS[t]));
-        &self.bytes[t][..used]
+        Rows::new(self.used(R::TABLE), self)
     }
 
     fn check<R: Row>(&self) -> Result<(), BadTable> {

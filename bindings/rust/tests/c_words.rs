@@ -13,7 +13,7 @@ const PROGRAM: &str = r#"
 
 int main(void)
 {
-    for (uint32_t number = 0; number < 12; number++)
+    for (uint32_t number = 0; number < 30; number++)
         for (uint32_t place = 0; place < 7; place++)
             printf("%u %u %s\n", (unsigned)number, (unsigned)place, mbelaguy_refusal(number, place));
     return 0;
@@ -50,12 +50,14 @@ fn compare(compiler: &str, language: &[&str]) {
     }
     let printed = Command::new(program).output().unwrap().stdout;
     let mut lines = str::from_utf8(&printed).unwrap().lines();
-    for number in 0..12 {
+    for number in 0..30 {
         for place in 0..7 {
             let words = match Refusal::of(number, place) {
-                _ if number == 0 => "the pack is accepted",
+                _ if number == 0 => "nothing is refused",
                 // The place of most refusals is 0 and says nothing.
-                Refusal::Unknown { number: 1..=3 | 5..=7, .. } => Refusal::of(number, 0).words(),
+                Refusal::Unknown { number: 1..=3 | 5..=7 | 9..=10 | 19..=20, .. } => {
+                    Refusal::of(number, 0).words()
+                }
                 refusal => refusal.words(),
             };
             assert_eq!(lines.next(), Some(&format!("{number} {place} {words}")[..]));

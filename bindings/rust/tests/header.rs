@@ -5,8 +5,8 @@ use mbelaguy::rows::{
     Action, Invocation, Lack, Leg, Mark, Mint, MintRow, Mode, Native, Protocol, Transfer,
 };
 use mbelaguy::{
-    ids, Answer, Key, Names, Refusal, Section, Table, Tables, MAX_INVOCATIONS, MAX_KEYS,
-    MAX_PASSES, WIDTHS,
+    ids, Answer, Key, Month, MonthLine, Names, Refusal, Section, Table, Tables, MAX_FED,
+    MAX_INVOCATIONS, MAX_KEYS, MAX_PASSES, REPORT_ROW, WIDTHS,
 };
 use std::collections::BTreeMap;
 
@@ -54,6 +54,7 @@ fn numbers() {
         ("MAX_KEYS", MAX_KEYS),
         ("MAX_INVOCATIONS", MAX_INVOCATIONS),
         ("MAX_PASSES", MAX_PASSES),
+        ("MAX_FED", MAX_FED as usize),
         ("NAMES_BYTES", Names::BYTES),
         ("NAMES_SWAP_BASE_IN", Names::SWAP_BASE_IN),
         ("NAMES_SWAP_BASE_OUT", Names::SWAP_BASE_OUT),
@@ -80,6 +81,7 @@ fn numbers() {
         ("TRANSFER_ROW", WIDTHS[2]),
         ("LEG_ROW", WIDTHS[3]),
         ("NATIVE_ROW", WIDTHS[4]),
+        ("REPORT_ROW", REPORT_ROW),
         ("MARK_RECORDED", Mark::Recorded as usize),
         ("MARK_FILLED_IN", Mark::FilledIn as usize),
         ("MARK_IN_DOUBT", Mark::InDoubt as usize),
@@ -119,6 +121,10 @@ fn refusals() {
         ("INVOCATIONS", Refusal::Invocations),
         ("PASSES", Refusal::Passes),
         ("ROOM", Refusal::Room(Table::Mints)),
+        ("TRANSFER_TABLE", Refusal::TransferTable),
+        ("REPORT", Refusal::Report),
+        ("REPORT_ROWS", Refusal::ReportRows),
+        ("LIMIT", Refusal::Limit),
     ];
     for (name, refusal) in named {
         assert_eq!(header.get(&format!("REFUSED_{name}")), refusal.number() as usize, "{name}");
@@ -319,4 +325,34 @@ fn native_rows() {
         let read = tables([mint_row(account, ids::WRAPPED_SOL), vec![], vec![], vec![], row]);
         assert_eq!(read.natives().next(), Some(expected), "{name}");
     }
+}
+
+#[test]
+fn report_rows() {
+    let header = Header::read();
+    let sum =
+        |low: u8, high: u8| [[low, 0, 0, 0, 0, 0, 0, 0], [high, 0, 0, 0, 0, 0, 0, 0]].concat();
+    let mint: &[Field<'_>] = &[
+        ("MINT_FLAG", &[1]),
+        ("MINT", &key(1)),
+        ("DEBITS", &sum(2, 3)),
+        ("CREDITS", &sum(4, 5)),
+        ("FEES", &sum(6, 7)),
+        ("APART", &[8, 9, 10, 11]),
+    ];
+    let account: &[Field<'_>] = &[("ACCOUNT_FLAG", &[1]), ("ACCOUNT", &key(12)), ("APART", &[0])];
+    let account = [&mint[..2], account].concat();
+    let line = MonthLine {
+        mint: Some(key(1)),
+        account: None,
+        debits: (3 << 64) + 2,
+        credits: (5 << 64) + 4,
+        fees: (7 << 64) + 6,
+        apart: 0x0b0a_0908,
+    };
+    let other =
+        MonthLine { account: Some(key(12)), debits: 0, credits: 0, fees: 0, apart: 0, ..line };
+    let report = [header.row("REPORT", mint), header.row("REPORT", &account)].concat();
+    let month = Month::read(report, line.apart).unwrap();
+    assert_eq!(month.lines().collect::<Vec<_>>(), [line, other]);
 }

@@ -126,6 +126,7 @@ fn used_rows_come_back() {
     let marks: Vec<_> = tables.mints().map(|row| row.mark).collect();
     assert_eq!(marks, [Mark::Recorded, Mark::InDoubt]);
     assert_eq!(tables.bytes(Table::Mints), bytes);
+    assert_eq!(tables.used(Table::Mints), &bytes[..2 * WIDTHS[0]]);
     assert_eq!(tables.legs().next(), None);
 }
 

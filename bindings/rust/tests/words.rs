@@ -64,7 +64,7 @@ fn refusals_by_number_and_place() {
             known += u32::from(refusal != Refusal::Unknown { number, place });
         }
     }
-    assert_eq!(known, 6 + 5 + 5);
+    assert_eq!(known, 6 + 5 + 5 + 4);
 }
 
 #[test]
@@ -78,6 +78,10 @@ fn refusals_in_words() {
     assert_eq!(
         words(Refusal::Room(Table::Natives)),
         "refusal 8, place 4 (table of native actions): it has fewer whole rows than are needed"
+    );
+    assert_eq!(
+        words(Refusal::ReportRows),
+        "refusal 9, place 0: the report has fewer whole rows than are needed"
     );
     assert_eq!(
         words(Refusal::of(11, 0)),
