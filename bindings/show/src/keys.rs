@@ -1,19 +1,18 @@
 //! How keys are written: by name, shortened or in full.
 
 use mbelaguy::base58::{self, ShortForms};
-use mbelaguy::pack::Pack;
 use mbelaguy::{ids, Key};
 
 /// How keys are written that have no name.
 #[derive(Clone, Copy, Debug, PartialEq, Eq)]
 pub enum Keys {
-    /// The first and last letters of their base58, as many as tell the keys of the pack apart.
+    /// The first and last letters of their base58, as many as tell the keys apart.
     Short,
     /// All of it.
     Full,
 }
 
-/// The text of each key of a pack.
+/// The text of each key that is shown.
 pub struct Texts {
     keys: Keys,
     short: ShortForms,
@@ -21,10 +20,9 @@ pub struct Texts {
 
 impl Texts {
     /// The ids are among the keys, so that no other key looks like one of them.
-    pub fn of(pack: &Pack, keys: Keys) -> Self {
-        let all = pack.keys.iter().map(|row| row.key).chain(ids::NAMED.map(|(id, _)| id));
-        let all = all.chain(pack.balances.iter().map(|row| row.mint)).chain(pack.pools.clone());
-        Texts { keys, short: ShortForms::of(all) }
+    pub fn of(shown: impl Iterator<Item = Key>, keys: Keys) -> Self {
+        let named = ids::NAMED.map(|(id, _)| id);
+        Texts { keys, short: ShortForms::of(shown.chain(named)) }
     }
 
     /// What stands for a key: its name, `none` for the zero key, else base58.

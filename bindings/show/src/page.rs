@@ -1,5 +1,5 @@
 //! The report as one HTML page that needs nothing else: no script, no font, no picture. A shortened
-//! key leads to its full form at the page's end.
+//! key leads to its full form at the page's end. What pages have in common stands here too.
 
 use crate::keys::Texts;
 use crate::report::{Deed, Node, Report};
@@ -7,6 +7,7 @@ use crate::words::{self, Part};
 use crate::Keys;
 use mbelaguy::rows::{Lack, Mark, Mint};
 use mbelaguy::{base58, ids, Key, Refusal};
+use std::collections::BTreeSet;
 
 const STYLE: &str = include_str!("page.css");
 
@@ -15,21 +16,26 @@ const INDENTED: usize = 8;
 
 /// The page of a report, or of the refusal in its place.
 pub fn page(title: &str, report: &Result<Report, Refusal>, keys: Keys) -> String {
-    let title = escaped(title);
     let body = match report {
         Ok(report) => shown(report, keys),
         Err(refusal) => format!("<p class=\"refusal\">{}</p>\n", escaped(&refusal.to_string())),
     };
+    sheet(title, "", &body)
+}
+
+/// A whole page with this body. The style is what it needs besides that of all pages.
+pub fn sheet(title: &str, style: &str, body: &str) -> String {
+    let title = escaped(title);
     format!(
         "<!DOCTYPE html>\n<html lang=\"en\">\n<head>\n<meta charset=\"utf-8\">\n\
          <meta name=\"viewport\" content=\"width=device-width, initial-scale=1\">\n\
-         <title>{title}</title>\n<style>\n{STYLE}</style>\n</head>\n<body>\n<h1>{title}</h1>\n\
+         <title>{title}</title>\n<style>\n{STYLE}{style}</style>\n</head>\n<body>\n<h1>{title}</h1>\n\
          {body}</body>\n</html>\n"
     )
 }
 
 fn shown(report: &Report, keys: Keys) -> String {
-    let mut page = Page { texts: Texts::of(&report.pack, keys), met: Vec::new() };
+    let mut page = Page::new(Texts::of(report.keys(), keys));
     let counts: String =
         words::counts(report).iter().map(|count| format!("<li>{count}</li>")).collect();
     let tree: String =
@@ -54,7 +60,7 @@ fn shown(report: &Report, keys: Keys) -> String {
 }
 
 /// What is to be shown, or a word where there is nothing.
-fn filled(rows: &str, shown: &str) -> String {
+pub fn filled(rows: &str, shown: &str) -> String {
     if rows.is_empty() {
         "<p class=\"none\">none</p>".to_string()
     } else {
@@ -62,13 +68,18 @@ fn filled(rows: &str, shown: &str) -> String {
     }
 }
 
-/// The page being written, with the keys met so far.
-struct Page {
+/// The page being written, with the keys met so far in the order in which they were.
+pub struct Page {
     texts: Texts,
     met: Vec<Key>,
+    seen: BTreeSet<Key>,
 }
 
 impl Page {
+    pub fn new(texts: Texts) -> Self {
+        Page { texts, met: Vec::new(), seen: BTreeSet::new() }
+    }
+
     fn node(&mut self, number: usize, node: &Node) -> String {
         let class = if node.invocation.skipped { " class=\"skipped\"" } else { "" };
         let mut html = format!(
@@ -104,7 +115,7 @@ impl Page {
             "<tr><td>{}</td><td>{}</td><td>{}</td></tr>\n",
             self.key(account),
             self.key(&mint.key().unwrap_or_default()),
-            known(mint)
+            known(mint, &mint.to_string())
         )
     }
 
@@ -113,12 +124,12 @@ impl Page {
             Part::Words(words) => escaped(words),
             Part::Title(words) => format!("<b>{}</b>", escaped(words)),
             Part::Key(key) => self.key(key),
-            Part::Known(mint) => known(mint),
+            Part::Known(mint) => known(mint, &mint.to_string()),
         };
         parts.iter().map(part).collect::<Vec<_>>().join(" ")
     }
 
-    fn key(&mut self, key: &Key) -> String {
+    pub fn key(&mut self, key: &Key) -> String {
         let shown = self.texts.get(key);
         if *key == ids::SYSTEM {
             return format!("<span class=\"none\">{shown}</span>");
@@ -130,14 +141,14 @@ impl Page {
         if !self.texts.are_short() {
             return shown;
         }
-        if !self.met.contains(key) {
+        if self.seen.insert(*key) {
             self.met.push(*key);
         }
         format!("<a href=\"#{}\">{shown}</a>", base58::encode(key))
     }
 
     /// The keys that were shortened or named, in full.
-    fn keys_in_full(&self) -> String {
+    pub fn keys_in_full(&self) -> String {
         if self.met.is_empty() {
             return String::new();
         }
@@ -151,8 +162,8 @@ impl Page {
     }
 }
 
-/// How a mint is known, set apart by how sure that is.
-fn known(mint: &Mint) -> String {
+/// Words on how a mint is known, set apart by how sure that is.
+pub fn known(mint: &Mint, words: &str) -> String {
     let class = match mint {
         Mint::Marked { mark: Mark::Recorded, .. } => "recorded",
         Mint::Marked { mark: Mark::FilledIn, .. } => "filled-in",
@@ -163,9 +174,9 @@ fn known(mint: &Mint) -> String {
             "contradictory"
         }
     };
-    format!("<span class=\"mark {class}\">{mint}</span>")
+    format!("<span class=\"mark {class}\">{words}</span>")
 }
 
-fn escaped(text: &str) -> String {
+pub fn escaped(text: &str) -> String {
     text.replace('&', "&amp;").replace('<', "&lt;").replace('>', "&gt;").replace('"', "&quot;")
 }

@@ -61,6 +61,13 @@ impl Report {
             pack,
         })
     }
+
+    /// The keys that may be shown.
+    pub fn keys(&self) -> impl Iterator<Item = Key> + '_ {
+        let keys = self.pack.keys.iter().map(|row| row.key);
+        let mints = self.pack.balances.iter().map(|row| row.mint);
+        keys.chain(mints).chain(self.pack.pools.iter().copied())
+    }
 }
 
 fn nodes(pack: &Pack, tables: &Tables) -> Vec<Node> {

@@ -10,7 +10,7 @@ const DRAWN: usize = 12;
 
 /// The report as lines of text.
 pub fn text(report: &Report, keys: Keys) -> String {
-    let texts = Texts::of(&report.pack, keys);
+    let texts = Texts::of(report.keys(), keys);
     let mut lines = vec![words::pack(report), words::counts(report).join(", ")];
     lines.extend([String::new(), "Mints".to_string()]);
     lines.extend(mints(report, &texts));

@@ -51,7 +51,8 @@ pub fn counts(report: &Report) -> Vec<String> {
     counts
 }
 
-fn count(n: usize, name: &str) -> String {
+/// So many of a name.
+pub fn count(n: usize, name: &str) -> String {
     format!("{} {name}{}", grouped(n as u64), if n == 1 { "" } else { "s" })
 }
 
@@ -190,8 +191,8 @@ fn sol(lamports: u64) -> String {
 }
 
 /// A number with a comma before every three digits.
-pub fn grouped(number: u64) -> String {
-    let digits = number.to_string();
+pub fn grouped(number: impl Into<u128>) -> String {
+    let digits = number.into().to_string();
     let mut text = String::new();
     for (at, digit) in digits.chars().enumerate() {
         if at > 0 && (digits.len() - at).is_multiple_of(3) {

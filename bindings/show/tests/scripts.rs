@@ -61,7 +61,8 @@ fn a_first_call_says_where_it_is() {
 #[test]
 fn help_is_answered() {
     let usage = include_str!("../src/usage.txt").to_string();
-    assert_eq!(told("show", &["--help"]), (Some(0), usage, String::new()));
+    assert_eq!(told("show", &["--help"]), (Some(0), usage.clone(), String::new()));
+    assert_eq!(told("show", &["month", "--help"]), (Some(0), usage, String::new()));
     let (status, printed, wrong) = told("routes", &["--help"]);
     assert_eq!((status, &wrong[..]), (Some(0), ""));
     assert!(printed.starts_with("usage: routes [FILE]\n"));
@@ -73,7 +74,7 @@ fn wrong_arguments_are_told_at_once() {
     let empty = folder().join("empty");
     fs::write(&empty, "").unwrap();
     let empty = empty.to_str().unwrap();
-    let cases: [(&str, &[&str], &str); 10] = [
+    let cases: [(&str, &[&str], &str); 18] = [
         ("show", &[], "needs a file with names and a pack"),
         ("show", &["--fast", "examples/aggregator_swap.bin"], "no option --fast"),
         ("show", &["one", "two"], "shows one file"),
@@ -81,6 +82,14 @@ fn wrong_arguments_are_told_at_once() {
         ("show", &["nothing"], "there is no file nothing"),
         ("show", &["examples"], "examples is a folder"),
         ("show", &[empty], "is empty"),
+        ("show", &["--csv", "totals.csv", "one"], "--csv writes the totals of many packs"),
+        ("show", &["month"], "needs a file with names and a pack, as ./show month "),
+        ("show", &["month", "--full"], "needs a file with names and a pack"),
+        ("show", &["month", "--fast", "examples"], "no option --fast"),
+        ("show", &["month", "--csv"], "--csv needs the name of a file"),
+        ("show", &["month", "--csv", "examples", "examples"], "--csv needs the name of a file"),
+        ("show", &["month", "--html", "examples", "examples"], "--html needs the name of a page"),
+        ("show", &["month", "examples", "nothing"], "there is no file nothing"),
         ("routes", &["nothing"], "there is no file nothing"),
         ("routes", &["examples"], "examples is a folder"),
         ("routes", &["one", "two"], "lists one file"),

@@ -4,7 +4,8 @@ use mbelaguy::pack::{Balance, Group, Inner, Instruction, KeyRow, Pack};
 use mbelaguy::rows::Invocation;
 use mbelaguy::{base58, ids, Answer, Key, Refusal, Tables};
 use show::{page, text, Keys, Report};
-use std::collections::BTreeSet;
+
+mod alone;
 
 fn key_row(key: Key) -> KeyRow {
     KeyRow { whole: true, key }
@@ -165,17 +166,7 @@ fn a_tree_is_drawn_to_some_depth() {
 #[test]
 fn a_page_stands_alone() {
     for keys in [Keys::Short, Keys::Full] {
-        let page = page("a", &Ok(marks()), keys);
-        for outside in ["http", "url(", "src=", "<script", "<link", "@import"] {
-            assert!(!page.contains(outside), "{outside}");
-        }
-        let all = |mark: &str| -> BTreeSet<String> {
-            let ends = page.split(mark).skip(1).filter_map(|rest| rest.split('"').next());
-            ends.map(String::from).collect()
-        };
-        let links = all("href=\"#");
-        assert_eq!(links, all("id=\""));
-        assert_eq!(links.is_empty(), keys == Keys::Full);
+        alone::stands_alone(&page("a", &Ok(marks()), keys), keys);
     }
 }
 
