@@ -13,6 +13,7 @@ pub mod listing;
 pub mod month;
 pub mod oracle;
 pub mod sample;
+pub mod shares;
 pub mod speed;
 pub mod stored;
 

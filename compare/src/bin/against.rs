@@ -7,21 +7,17 @@ use compare::calls::Calls;
 use compare::checks::damaged;
 use compare::close;
 use compare::library::Library;
-use std::env;
+use compare::shares::{cut, seeds, walk};
 use std::ops::Range;
 use std::process::ExitCode;
-use std::sync::atomic::{AtomicU64, Ordering};
-use std::thread;
 
 const SEEDS_AT_ONCE: u64 = 500;
 
 fn main() -> ExitCode {
-    let seeds: Option<Vec<u64>> = env::args().skip(1).map(|seed| seed.parse().ok()).collect();
-    let Some(&[from, to]) = seeds.as_deref() else {
-        eprintln!("usage: against FROM TO");
+    let Some(seeds) = seeds("against") else {
         return ExitCode::FAILURE;
     };
-    let mut found = compare_all(from..to);
+    let mut found: Found = walk(&cut(seeds.clone(), SEEDS_AT_ONCE), Found::share, Found::with);
     match damaged::noticed() {
         Ok(()) => found.passed += 1,
         Err(wrong) => {
@@ -32,7 +28,7 @@ fn main() -> ExitCode {
     if let Some(smallest) = found.wrong.iter().min_by_key(|wrong| wrong.bytes) {
         println!("the smallest pack: {} bytes, seed {}", smallest.bytes, smallest.seed);
     }
-    println!("{} packs, {} calls", to.saturating_sub(from), found.calls);
+    println!("{} packs, {} calls", seeds.count(), found.calls);
     close(found.passed, found.failed)
 }
 
@@ -50,32 +46,14 @@ struct Wrong {
     bytes: usize,
 }
 
-/// As many threads as processors, each with its own share of seeds at a time.
-fn compare_all(seeds: Range<u64>) -> Found {
-    let next = AtomicU64::new(seeds.start);
-    let share = || {
-        let mut found = Found::default();
-        loop {
-            let from = next.fetch_add(SEEDS_AT_ONCE, Ordering::Relaxed);
-            if from >= seeds.end {
-                return found;
-            }
-            let to = seeds.end.min(from + SEEDS_AT_ONCE);
-            if let Err(error) = found.compare(from..to) {
-                println!("seeds {from} to {to}: {error}");
-                found.failed += 1;
-            }
-        }
-    };
-    thread::scope(|scope| {
-        let threads = thread::available_parallelism().map_or(1, usize::from);
-        let running: Vec<_> = (0..threads).map(|_| scope.spawn(share)).collect();
-        let ended = running.into_iter().map(|thread| thread.join().expect("no thread panics"));
-        ended.fold(Found::default(), Found::with)
-    })
-}
-
 impl Found {
+    fn share(&mut self, seeds: &Range<u64>) {
+        if let Err(error) = self.compare(seeds.clone()) {
+            println!("seeds {} to {}: {error}", seeds.start, seeds.end);
+            self.failed += 1;
+        }
+    }
+
     fn compare(&mut self, seeds: Range<u64>) -> Result<(), String> {
         let mut library = Library::start()?;
         let mut made = Vec::new();

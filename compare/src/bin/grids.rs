@@ -6,10 +6,9 @@ use compare::generate::Case;
 use compare::grids::{alone, shares, Share};
 use compare::library::{Library, Verdict};
 use compare::oracle::reply;
+use compare::shares::walk;
 use std::path::Path;
 use std::process::ExitCode;
-use std::sync::atomic::{AtomicUsize, Ordering};
-use std::thread;
 
 const REPLAY: &str = concat!(env!("CARGO_MANIFEST_DIR"), "/../target/bin/replay");
 
@@ -18,7 +17,7 @@ fn main() -> ExitCode {
         println!("{REPLAY} is missing: nothing was compared");
         return close(0, 1);
     }
-    let found = compare_all(&shares());
+    let found: Found = walk(&shares(), Found::share, Found::with);
     println!(
         "{} instructions, {} rows",
         found.rows[1],
@@ -35,28 +34,14 @@ struct Found {
     rows: [usize; 5],
 }
 
-/// As many threads as processors, each with a share at a time.
-fn compare_all(shares: &[Share]) -> Found {
-    let next = AtomicUsize::new(0);
-    let work = || {
-        let mut found = Found::default();
-        while let Some(share) = shares.get(next.fetch_add(1, Ordering::Relaxed)) {
-            if let Err(error) = found.compare(*share) {
-                println!("{share:?}: {error}");
-                found.failed += 1;
-            }
-        }
-        found
-    };
-    thread::scope(|scope| {
-        let threads = thread::available_parallelism().map_or(1, usize::from);
-        let running: Vec<_> = (0..threads).map(|_| scope.spawn(work)).collect();
-        let ended = running.into_iter().map(|thread| thread.join().expect("no thread panics"));
-        ended.fold(Found::default(), Found::with)
-    })
-}
-
 impl Found {
+    fn share(&mut self, share: &Share) {
+        if let Err(error) = self.compare(*share) {
+            println!("{share:?}: {error}");
+            self.failed += 1;
+        }
+    }
+
     fn compare(&mut self, share: Share) -> Result<(), String> {
         let cases = share.cases();
         let verdict = call(&cases, &mut self.rows)?;

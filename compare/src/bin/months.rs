@@ -11,35 +11,31 @@ use compare::month::coverage::{shown, FEATURES};
 use compare::month::damaged::{answers, rows_and_tail};
 use compare::month::generate::Month;
 use compare::month::{answered, linked};
+use compare::shares::{cut, seeds, walk};
 use std::collections::BTreeSet;
-use std::env;
 use std::ops::Range;
 use std::process::ExitCode;
-use std::sync::atomic::{AtomicU64, Ordering};
-use std::thread;
 
 const SEEDS_AT_ONCE: u64 = 20;
 
 /// From so many seeds on every feature has to occur.
-const ENOUGH: u64 = 2_000;
+const ENOUGH: usize = 2_000;
 
 /// How many of the differences are told.
 const TOLD: usize = 20;
 
 fn main() -> ExitCode {
-    let seeds: Option<Vec<u64>> = env::args().skip(1).map(|seed| seed.parse().ok()).collect();
-    let Some(&[from, to]) = seeds.as_deref() else {
-        eprintln!("usage: months FROM TO");
+    let Some(seeds) = seeds("months") else {
         return ExitCode::FAILURE;
     };
-    let mut found = compare_all(from..to);
+    let mut found: Found = walk(&cut(seeds.clone(), SEEDS_AT_ONCE), Found::share, Found::with);
     let (call, reply) = rows_and_tail();
     for (damaged, what) in answers(&reply) {
         let noticed =
             linked::difference(&call, &damaged).is_some_and(|told| told.starts_with(what));
         found.note(noticed.then_some(()).ok_or(format!("{what}: is not noticed")));
     }
-    let seeds = to.saturating_sub(from);
+    let seeds = seeds.count();
     if seeds >= ENOUGH {
         for feature in FEATURES {
             let occurs = found.features.contains(feature);
@@ -62,28 +58,11 @@ struct Found {
     features: BTreeSet<&'static str>,
 }
 
-/// As many threads as processors, each with its own share of seeds at a time.
-fn compare_all(seeds: Range<u64>) -> Found {
-    let next = AtomicU64::new(seeds.start);
-    let share = || {
-        let mut found = Found::default();
-        loop {
-            let from = next.fetch_add(SEEDS_AT_ONCE, Ordering::Relaxed);
-            if from >= seeds.end {
-                return found;
-            }
-            (from..seeds.end.min(from + SEEDS_AT_ONCE)).for_each(|seed| found.compare(seed));
-        }
-    };
-    thread::scope(|scope| {
-        let threads = thread::available_parallelism().map_or(1, usize::from);
-        let running: Vec<_> = (0..threads).map(|_| scope.spawn(share)).collect();
-        let ended = running.into_iter().map(|thread| thread.join().expect("no thread panics"));
-        ended.fold(Found::default(), Found::with)
-    })
-}
-
 impl Found {
+    fn share(&mut self, seeds: &Range<u64>) {
+        seeds.clone().for_each(|seed| self.compare(seed));
+    }
+
     fn compare(&mut self, seed: u64) {
         let month = Month::of(seed);
         for (number, call) in month.calls.iter().enumerate() {
