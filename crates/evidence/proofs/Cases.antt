@@ -14,7 +14,7 @@ use Rattle.evidence.specs.Run.{onceMore, run}
 use Rattle.evidence.specs.Infer.{runFrom, infer}
 use Rattle.evidence.specs.Sorted.{insert, sort}
 use Rattle.evidence.specs.Final.{clean, final}
-use Rattle.evidence.specs.Marks.{absent, differ, opposes, opposed, markOf}
+use Rattle.evidence.specs.Marks.{against, isMint, gives, reaches, reaching, another, several, absent, markOf}
 use Rattle.evidence.specs.MintTable.{MintAnswer, mintTable, finish, mints}
 
 -- evidence, plain transfers, and the answer that they have
@@ -48,6 +48,10 @@ alone = record { rows = (key 1, key 8, 0) ∷ []; room = 1; passes = 1 }
 unfoldable chain : ℕ → MintAnswer
 chain n = record { rows = (key 1, key 8, 0) ∷ (key 3, key 8, 1) ∷ (key 4, key 8, 1) ∷ []; room = 3; passes = n }
 
+-- A and B recorded, C and D between them filled in and in doubt
+unfoldable between : Key → Key → MintAnswer
+between c d = record { rows = (key 1, key 8, 0) ∷ (key 2, key 9, 0) ∷ (key 3, c, 2) ∷ (key 4, d, 2) ∷ []; room = 4; passes = 2 }
+
 -- an ambiguous account alone: room, but no row
 unfoldable ambiguous : MintAnswer
 ambiguous = record { rows = []; room = 1; passes = 1 }
@@ -72,18 +76,39 @@ cases =
     ∷ (
       two,
       (key 1, key 3) ∷ (key 2, key 4) ∷ (key 3, key 4) ∷ [],
-      record { rows = (key 1, key 8, 0) ∷ (key 2, key 9, 0) ∷ (key 3, key 8, 2) ∷ (key 4, key 9, 2) ∷ []; room = 4; passes = 2 },
+      between (key 8) (key 9),
     )
     ∷ (two, (key 1, key 2) ∷ [], record { rows = (key 1, key 8, 0) ∷ (key 2, key 9, 0) ∷ []; room = 2; passes = 1 })
-    -- an ambiguous account does not mark C, nor does C itself
+    -- A to C, C to D, D to B: A's chain and B's go through both, whichever fills them in; one transfer more to E (5), which no other mint is beside
+    ∷ (two, (key 1, key 3) ∷ (key 3, key 4) ∷ (key 4, key 2) ∷ [], between (key 8) (key 8))
+    ∷ (two, (key 4, key 2) ∷ (key 3, key 4) ∷ (key 1, key 3) ∷ [], between (key 9) (key 9))
+    ∷ (
+      two,
+      (key 1, key 3) ∷ (key 3, key 2) ∷ (key 3, key 4) ∷ (key 4, key 5) ∷ [],
+      record { rows = (key 1, key 8, 0) ∷ (key 2, key 9, 0) ∷ (key 3, key 8, 2) ∷ (key 4, key 8, 2) ∷ (key 5, key 8, 2) ∷ []; room = 5; passes = 2 },
+    )
+    -- no chain runs through a recorded account: C to A, A to B leaves C sure
+    ∷ (two, (key 3, key 1) ∷ (key 1, key 2) ∷ [], record { rows = (key 1, key 8, 0) ∷ (key 2, key 9, 0) ∷ (key 3, key 8, 1) ∷ []; room = 3; passes = 2 })
+    -- two accounts with one mint put C in no doubt
+    ∷ (
+      (key 1, key 8) ∷ (key 2, key 8) ∷ [],
+      (key 1, key 3) ∷ (key 2, key 3) ∷ [],
+      record { rows = (key 1, key 8, 0) ∷ (key 2, key 8, 0) ∷ (key 3, key 8, 1) ∷ []; room = 3; passes = 2 },
+    )
+    -- an ambiguous account does not put C in doubt, nor does C itself, nor does a chain run through one: E (5), recorded with Y, pays it
     ∷ (
       clash ++ one,
       (key 2, key 3) ∷ (key 3, key 1) ∷ (key 3, key 3) ∷ [],
       record { rows = (key 1, key 8, 0) ∷ (key 3, key 8, 1) ∷ []; room = 3; passes = 2 },
     )
+    ∷ (
+      clash ++ one ++ ((key 5, key 9) ∷ []),
+      (key 1, key 3) ∷ (key 3, key 2) ∷ (key 2, key 5) ∷ [],
+      record { rows = (key 1, key 8, 0) ∷ (key 3, key 8, 1) ∷ (key 5, key 9, 0) ∷ []; room = 4; passes = 2 },
+    )
     ∷ []
 
 -- every case has its answer
 pub worked : map (λ c. mints 512 (c .0) (c .1)) cases ≡ map (λ c. some (c .2)) cases
-unfolding cases key one two clash nothing alone chain ambiguous zeroKey same ltKey lookup put note noteAll recorded fill spread step pass onceMore run runFrom infer clean insert sort final absent differ opposes opposed markOf mintTable finish mints
+unfolding cases key one two clash nothing alone chain between ambiguous zeroKey same ltKey lookup put note noteAll recorded fill spread step pass onceMore run runFrom infer clean insert sort final against isMint gives reaches reaching another several absent markOf mintTable finish mints
 worked = refl

@@ -6,7 +6,7 @@ use Rattle.wire.proofs.Order.{key?}
 use Rattle.ids.specs.Keys.{Key, zeroKey}
 use Rattle.evidence.specs.Table.{Table, add, Has, Lacks}
 use Rattle.evidence.proofs.Table.{has-add, has-not-lacks, has-or-lacks, add-cases}
-use Rattle.evidence.specs.Evidence.{Evidence, recorded, Free, Clash}
+use Rattle.evidence.specs.Evidence.{Evidence, recorded, Free, One, Clash}
 use Rattle.evidence.proofs.Recording.{one-has, has-one-recorded, clash-has, has-clash, free-lacks, lacks-free, one-not-zero}
 use Rattle.evidence.specs.Passes.{Transfers, Joined}
 use Rattle.evidence.proofs.Passes.{Hands, Grown, grown, grow}
@@ -27,6 +27,11 @@ module _ {e : Evidence} {ps : Transfers} where
   pub chain-account : {a m : Key} → Chain e ps m a → a ≢ zeroKey
   chain-account (start o) = o .says .account
   chain-account (along c j f n) = n
+
+  -- a chain starts at an account with one recorded mint
+  pub chain-start : {a m : Key} → Chain e ps m a → (b : Key) × One e b m
+  chain-start (start {a} o) = (a, o)
+  chain-start (along c j f n) = chain-start c
 
   sound-start : Sound e ps (recorded e)
   sound-start = record { kept = λ h. h; chain = λ h n. start (has-one-recorded h n); clear = λ h. h }
@@ -68,6 +73,10 @@ module _ {e : Evidence} {ps : Transfers} where
       go : ((k : Key) × Has a k t × (k ≢ zeroKey)) → ((k : Key) × Has b k t) ⊎ Lacks b t → (k : Key) × Has b k t × (k ≢ zeroKey)
       go (i, h, z) (inl (k, g)) = (k, g, λ q. has-not-lacks ((settled-sound s) .clear (rw q at g)) (free-lacks f))
       go (i, h, z) (inr l) = absurd (s .done .closed j (record { from = h; mint = z; source = chain-account c; target = n; fresh = l }))
+
+  -- a mint in the row of an account with none recorded was handed on
+  pub filled-chain : {a m : Key} {t : Table} → Settled e ps t → Free e a → Has a m t → Chain e ps m a
+  filled-chain s f h = (settled-sound s) .chain h (λ q. has-not-lacks ((settled-sound s) .clear (rw q at h)) (free-lacks f))
 
   -- an account has a row, and needs room, exactly when two pieces of evidence for it differ or a chain reaches it
   pub rowed : {a : Key} {t : Table} → Settled e ps t → ((m : Key) × Has a m t) ↔ (Clash e a ⊎ ((m : Key) × Chain e ps m a))

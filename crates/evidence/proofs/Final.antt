@@ -5,7 +5,6 @@ use mathlib.Core.Logic.{_≢_, by-cases}
 use mathlib.Core.List.{[], _∷_, List·Memᴰ, List·Memᴰ·head, List·Memᴰ·tail, List·Memᴰ·not-nil}
 use Rattle.wire.proofs.Same.{same-eq, same-ne}
 use Rattle.wire.proofs.Order.{key?}
-use Rattle.wire.proofs.Ascending.{ascending-unique}
 use Rattle.ids.specs.Keys.{Key, zeroKey}
 use Rattle.evidence.specs.Table.{Row, Table, Has, Lacks, lacks-cons}
 use Rattle.evidence.proofs.Table.{row-of-has}
@@ -68,30 +67,3 @@ module _ {t : Table} (d : Distinct t) where
 
   pub gives-final : {a m : Key} → Has a m t → m ≢ zeroKey → Has a m (final t)
   gives-final h n = row-has (sorted-distinct (final-sorted d)) (has-final d h n)
-
--- u has a row for each mint that t gives, and no other
-pub record Rows (t u : Table) : Type 0 where
-  pub right : {a m : Key} → List·Memᴰ (a, m) u → Has a m t × (m ≢ zeroKey)
-  pub all : {a m : Key} → Has a m t → m ≢ zeroKey → List·Memᴰ (a, m) u
-
--- however a program sorts, its table is the final one
-pub final-is : {t u : Table} → Distinct t → Sorted u → Rows t u → u ≡ final t
-final-is {t} {u} d s r = ascending-unique s (final-sorted d) (record { to = λ i. to i; from = λ i. from i })
-  where
-    to : {x : Row} → List·Memᴰ x u → List·Memᴰ x (final t)
-    to i = let k = r .right i in has-final d (k .0) (k .1)
-
-    from : {x : Row} → List·Memᴰ x (final t) → List·Memᴰ x u
-    from i = let k = final-has d i in r .all (k .0) (k .1)
-
--- t and u give the same mints
-pub record SameMints (t u : Table) : Type 0 where
-  pub to : {a m : Key} → Has a m t → m ≢ zeroKey → Has a m u
-  pub from : {a m : Key} → Has a m u → m ≢ zeroKey → Has a m t
-
--- tables that give the same mints have one final table
-pub final-unique : {t u : Table} → Distinct t → Distinct u → SameMints t u → final t ≡ final u
-final-unique {t} {u} d c s = final-is c (final-sorted d) (record { right = λ i. right i; all = λ h n. has-final d (s .from h n) n })
-  where
-    right : {a m : Key} → List·Memᴰ (a, m) (final t) → Has a m u × (m ≢ zeroKey)
-    right i = let k = final-has d i in (s .to (k .0) (k .1), k .1)

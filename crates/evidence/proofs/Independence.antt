@@ -1,6 +1,6 @@
 -- Two inputs with the same evidence and the same plain transfers, in any order (T5): what is recorded and which chains there are is said by members, and the
 -- table follows from these. Assumes nothing.
-use mathlib.Core.Path.{_≡_, sym}
+use mathlib.Core.Path.{_≡_}
 use mathlib.Core.Logic.{_≢_, _⊎_, inl, inr, ⊎-elim, by-cases}
 use native.Mathlib.Omega.{arith}
 use lib.ListN.{length}
@@ -19,7 +19,7 @@ use Rattle.evidence.specs.Chains.{Chain, start, along}
 use Rattle.evidence.proofs.Chains.{settled-sound, complete, chain-account}
 use Rattle.evidence.proofs.Sorted.{same-accounts}
 use Rattle.evidence.specs.Final.{final}
-use Rattle.evidence.proofs.Final.{final-sorted, final-gives, gives-final, SameMints, final-unique}
+use Rattle.evidence.proofs.Final.{final-sorted, final-gives, gives-final}
 use Rattle.evidence.specs.Independence.{Apart, Unjoined}
 
 -- the same members say the same of every account
@@ -53,12 +53,8 @@ module _ {e : Evidence} {ps : Transfers} where
   chain-end (along c j f n) = inr f
 
   -- a recorded account is reached by its own mint alone
-  one-chain : {a m k : Key} → One e a m → Chain e ps k a → k ≡ m
+  pub one-chain : {a m k : Key} → One e a m → Chain e ps k a → k ≡ m
   one-chain o c = ⊎-elim (λ p. o .only (p .says)) (λ f. absurd (f .silent (o .says))) (chain-end c)
-
-  -- where the premise holds, one mint reaches an account
-  chains-agree : {a m k : Key} → Apart e ps → Chain e ps m a → Chain e ps k a → m ≡ k
-  chains-agree h c d = ⊎-elim (λ o. sym (one-chain o d)) (λ f. h .apart f c d) (chain-end c)
 
   unjoined-agree : {a m k : Key} → Unjoined e ps → Chain e ps m a → Chain e ps k a → m ≡ k
   unjoined-agree h c (start o) = one-chain o c
@@ -105,25 +101,7 @@ module _ {e e′ : Evidence} {ps ps′ : Transfers} {t t′ : Table} (se : SameM
           let k = mint-there (g .0) (g .1) in
           (k .0, gives-final (settled-distinct s′) (k .1) (k .2))
 
-  -- where the premise holds, a mint of one is the mint of the other
-  pub same-there : {a m : Key} → Apart e ps → Has a m t → m ≢ zeroKey → Has a m t′
-  same-there h i n =
-      let k = mint-there i n in
-      let back = same-chain (same-sym se) (same-sym sp) ((settled-sound s′) .chain (k .1) (k .2)) in
-      rw (chains-agree h ((settled-sound s) .chain i n) back) (k .1)
-
-same-apart : {e e′ : Evidence} {ps ps′ : Transfers} → SameMembers e e′ → SameMembers ps ps′ → Apart e ps → Apart e′ ps′
-same-apart se sp h =
-    record {
-      apart =
-          λ {a} f c d.
-          h .apart
-          (free-map (same-agree (same-sym se) a) f)
-          (same-chain (same-sym se) (same-sym sp) c)
-          (same-chain (same-sym se) (same-sym sp) d);
-    }
-
--- T5. The same members in any order: the same accounts, as many rows, and one final table where no account is reached from two mints.
+-- T5. The same members in any order: the same accounts, and as many rows.
 module _ {e e′ : Evidence} {ps ps′ : Transfers} {t t′ : Table} (se : SameMembers e e′) (sp : SameMembers ps ps′) (s : Settled e ps t) (s′ : Settled e′ ps′ t′) where
   pub same-room : length t ≡ length t′
   same-room =
@@ -140,13 +118,3 @@ module _ {e e′ : Evidence} {ps ps′ : Transfers} {t t′ : Table} (se : SameM
       (final-sorted (settled-distinct s′))
       (final-there se sp s s′)
       (final-there (same-sym se) (same-sym sp) s′ s)
-
-  pub same-mints : Apart e ps → SameMints t t′
-  same-mints h =
-      record {
-        to = λ i n. same-there se sp s s′ h i n;
-        from = λ i n. same-there (same-sym se) (same-sym sp) s′ s (same-apart se sp h) i n;
-      }
-
-  pub same-final : Apart e ps → final t ≡ final t′
-  same-final h = final-unique (settled-distinct s) (settled-distinct s′) (same-mints h)

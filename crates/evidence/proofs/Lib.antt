@@ -2,10 +2,11 @@
 --   Recording            T1: the table says of each account what the evidence says
 --   Distinct             T2: no account twice; counting by accounts
 --   Chains               T3: `settled-sound`, T4: `complete`: the rows that passes add are those that chains reach
---   Independence         T5: `same-recorded`, `same-room`, `same-final`
+--   Independence         T5: `same-recorded`, `same-chain`, `same-room`
 --   Bound                T6: `enough`: the passes end
+--   Reach, Marks         T7: `mark-right`: the computed mark is that of the chains; `same-mark`
 -- Laws of a definition stand in the module of its name. For code: Lookups (what a search finds after each step), Loops (some items more, passes counted),
--- Marking (marks transfer by transfer), Written (rows however they were sorted). The rule of the marks stands in Marks and Marking alone. Cases: worked cases.
+-- Doubts (the marks by transfers and settled mints), Written (rows however they were sorted). Cases: worked cases.
 pub mod Table
 pub mod Evidence
 pub mod Recording
@@ -19,11 +20,12 @@ pub mod Final
 pub mod Gather
 pub mod Independence
 pub mod Bound
+pub mod Reach
 pub mod Marks
+pub mod Doubts
 pub mod MintTable
 pub mod Order
 pub mod Cases
 pub mod Lookups
 pub mod Loops
-pub mod Marking
 pub mod Written

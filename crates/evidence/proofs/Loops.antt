@@ -93,7 +93,7 @@ infer-run f e ps q = go (recorded e) q
     go (r ∷ t) h = refl
 
 -- the answer of what the passes come to
-pub mints-some : (f : ℕ) (e : Evidence) (ps : Transfers) {t : Table} {n : ℕ} → infer f e ps ≡ some (t, n) → mints f e ps ≡ some (record { rows = mintTable (recorded e) ps t; room = length t; passes = n })
+pub mints-some : (f : ℕ) (e : Evidence) (ps : Transfers) {t : Table} {n : ℕ} → infer f e ps ≡ some (t, n) → mints f e ps ≡ some (record { rows = mintTable e ps t; room = length t; passes = n })
 unfolding mints finish
 mints-some f e ps q = rw q
 

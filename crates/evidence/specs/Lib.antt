@@ -4,8 +4,8 @@
 --   Passes, Run, Infer   `step`, `pass`; passes until one adds nothing
 --   Chains               `Chain`: how a mint reaches an account
 --   Sorted, Final        `final`: no ambiguous rows, sorted
---   Marks, MintTable     `markOf`; `mints`: rows, room, passes
---   Gather, Independence words for the theorems: the same items in any order, `Apart`
+--   Marks, MintTable     `Mark` by chains, and computed, `markOf`; `mints`: rows, room, passes
+--   Gather, Independence words for the theorems: the same items in any order, `Apart`, `DifferInDoubt`
 pub mod Table
 pub mod Evidence
 pub mod Passes
@@ -14,7 +14,7 @@ pub mod Infer
 pub mod Chains
 pub mod Sorted
 pub mod Final
-pub mod Gather
-pub mod Independence
 pub mod Marks
 pub mod MintTable
+pub mod Gather
+pub mod Independence

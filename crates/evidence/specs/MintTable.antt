@@ -7,7 +7,7 @@ use lib.ListN.{length}
 use Rattle.wire.specs.Same.{same}
 use Rattle.ids.specs.Keys.{Key}
 use Rattle.evidence.specs.Table.{Row, Table}
-use Rattle.evidence.specs.Evidence.{Evidence, recorded}
+use Rattle.evidence.specs.Evidence.{Evidence}
 use Rattle.evidence.specs.Passes.{Transfers}
 use Rattle.evidence.specs.Run.{TableAfter}
 use Rattle.evidence.specs.Infer.{infer}
@@ -18,13 +18,13 @@ use Rattle.evidence.specs.Marks.{markOf}
 abbrev pub MintRow : Type 0
 MintRow = Key × Key × ℕ
 
--- a row of the final table t with its mark, r what is recorded
-abbrev pub withMark : Table → Transfers → Table → Row → MintRow
-withMark r ps t x = (x .0, x .1, markOf r ps t (x .0))
+-- a row of the final table with its mark
+abbrev pub withMark : Evidence → Transfers → Row → MintRow
+withMark e ps x = (x .0, x .1, markOf e ps (x .0))
 
--- the rows that are written: r what is recorded, t the table when the passes are over
-unfoldable pub mintTable : Table → Transfers → Table → List MintRow
-mintTable r ps t = map (withMark r ps (final t)) (final t)
+-- the rows that are written, t the table when the passes are over
+unfoldable pub mintTable : Evidence → Transfers → Table → List MintRow
+mintTable e ps t = map (withMark e ps) (final t)
 
 -- the rows, the accounts that need room (ambiguous ones count), and the passes
 pub record MintAnswer : Type 0 where
@@ -33,13 +33,13 @@ pub record MintAnswer : Type 0 where
   pub passes : ℕ
 
 -- the answer when the passes are over
-unfoldable pub finish : Table → Transfers → Option TableAfter → Option MintAnswer
-finish r ps none = none
-finish r ps (some t) = some (record { rows = mintTable r ps (t .0); room = length (t .0); passes = t .1 })
+unfoldable pub finish : Evidence → Transfers → Option TableAfter → Option MintAnswer
+finish e ps none = none
+finish e ps (some t) = some (record { rows = mintTable e ps (t .0); room = length (t .0); passes = t .1 })
 
 -- the mint table of all evidence and all plain transfers; none where the fuel, the passes that are allowed, does not suffice
 unfoldable pub mints : ℕ → Evidence → Transfers → Option MintAnswer
-mints f e ps = finish (recorded e) ps (infer f e ps)
+mints f e ps = finish e ps (infer f e ps)
 
 -- the mint that the table gives an account: its first row with that account decides
 unfoldable pub mintIn : List MintRow → Key → Option Key
@@ -49,3 +49,7 @@ mintIn (r ∷ l) a = cond (same a (r .0)) (some (r .1)) (mintIn l a)
 -- the accounts of the rows
 abbrev pub rowAccounts : List MintRow → List Key
 rowAccounts l = map (λ r. r .0) l
+
+-- the accounts of the rows, each with its mark
+abbrev pub rowMarks : List MintRow → List (Key × ℕ)
+rowMarks l = map (λ r. (r .0, r .2)) l
