@@ -3,6 +3,7 @@ pub mod Laying
 pub mod Copying
 pub mod Noting
 pub mod Passing
+pub mod Labelling
 pub mod Inserting
 pub mod Writing
 pub mod Sorting
@@ -13,6 +14,9 @@ pub mod Recorded
 pub mod Stepped
 pub mod Runs
 pub mod States
+pub mod Filled
+pub mod Together
+pub mod Labels
 pub mod Marked
 pub mod Written
 pub mod Laid

@@ -10,7 +10,7 @@ use lib.Dec.{eqb, ltb}
 use lib.ListN.{getD}
 use borrow.Author.Tests.{eq-eqb, ne-eqb, lt-ltb, le-ltb}
 use Rattle.mints.specs.Cells.{stateAt}
-use Rattle.mints.specs.Pass.{handAt, stepAt, filledAt, passTo, passesFrom, differAt, doubtAt, doubtsTo}
+use Rattle.mints.specs.Pass.{handAt, stepAt, filledAt, passTo, passesFrom}
 
 -- a transfer fills in at most one account
 pub one-filled : (t : List ℕ) (a b : ℕ) → filledAt t a b ≤ 1
@@ -56,14 +56,6 @@ module _ (f g t : List ℕ) where
   unfolding passTo
   filled-bound zero = omega arith
   filled-bound (suc i) = omega (arith, filled-bound i, one-filled (passTo f g t i .table) (getD f i 0) (getD g i 0))
-
-  pub doubt-skip : (i : ℕ) {u : List ℕ} → u ≡ doubtsTo f g t i → differAt u (getD f i 0) (getD g i 0) ≡ false → u ≡ doubtsTo f g t (i + 1)
-  unfolding doubtsTo
-  doubt-skip i e d = rw (add-one i, ← e, d)
-
-  pub doubt-both : (i : ℕ) {u : List ℕ} → u ≡ doubtsTo f g t i → differAt u (getD f i 0) (getD g i 0) ≡ true → doubtAt (doubtAt u (getD f i 0)) (getD g i 0) ≡ doubtsTo f g t (i + 1)
-  unfolding doubtsTo
-  doubt-both i e d = rw (add-one i, ← e, d)
 
 module _ (f g : List ℕ) (n : ℕ) (t : List ℕ) (room p : ℕ) where
   pub passes-last : p < 512 → passTo f g t n .room ≡ 0 → passesFrom f g n (512 - p) t room p ≡ record { table = passTo f g t n .table; room = room; passes = p + 1 }

@@ -17,13 +17,14 @@ use Rattle.evidence.specs.MintTable.{MintAnswer, mints}
 use Rattle.evidence.proofs.Loops.{mints-some, mints-none}
 use Rattle.mints.specs.Cells.{mintAt, stateAt, stateSays}
 use Rattle.mints.specs.Gather.{Gathered}
-use Rattle.mints.specs.Pass.{Ran, passes, doubtsTo}
+use Rattle.mints.specs.Pass.{Ran, passes}
+use Rattle.mints.specs.Doubt.{doubtsOf}
 use Rattle.mints.specs.Order.{sortTo, mintsTo}
 use Rattle.mints.specs.Bytes.{mintsOf}
 use Rattle.mints.proofs.Holding.{RowsApart, HoldsRows, was}
 use Rattle.mints.proofs.Stepped.{Held}
 use Rattle.mints.proofs.Runs.{Ended, done, over, ran}
-use Rattle.mints.proofs.Marked.{Marked, marks}
+use Rattle.mints.proofs.Marked.{doubts-marked}
 use Rattle.mints.proofs.Written.{cell, table-right, mints-right}
 use Rattle.mints.proofs.Observed.{Indexed}
 use Rattle.mints.proofs.Collected.{Collected}
@@ -49,7 +50,7 @@ module _ {n : ℕ} {α : ℕ → Key} (p : RowsApart n α) (e : Evidence) (ps : 
   over-all = passes (x .from) (x .to) (x .count) (x .noted .table) (x .noted .room)
 
   abbrev pub marked-all : List ℕ
-  marked-all = doubtsTo (x .from) (x .to) (over-all .table) (x .count)
+  marked-all = doubtsOf (x .from) (x .to) (x .count) (over-all .table) n
 
   ended : Ended n α (recorded e) over-all (infer 512 e ps)
   ended =
@@ -71,7 +72,7 @@ module _ {n : ℕ} {α : ℕ → Key} (p : RowsApart n α) (e : Evidence) (ps : 
       go none q (over z) = rw (mints-none 512 e ps q) (too-many z)
       go (some r) q (done {u} {k} stateSays count k-is small) =
           let s = infer-settled 512 e ps q in
-          let m : Marked n α u ps (over-all .table) marked-all = subst (λ (qs : Transfers). Marked n α u qs (over-all .table) marked-all) (h .pairs) (marks p s (stateSays .now) (x .from) (x .to) (h .sources) (h .targets) (x .count)) in
+          let m = doubts-marked p s stateSays (x .from) (x .to) (x .count) (h .pairs) (h .sources) (h .targets) in
           rw (mints-some 512 e ps q)
           (made
           (λ z. absurd (omega arith))

@@ -11,10 +11,10 @@ use lib.ListN.{length}
 use borrow.Author.Tests.{eq-eqb, ne-eqb}
 use Rattle.mints.specs.Bytes.{mintWidth}
 use Rattle.mints.specs.Cells.{accountAt, mintAt, stateAt, withState}
-use Rattle.mints.specs.Pass.{doubtAt}
+use Rattle.mints.specs.Doubt.{doubtAt}
 use Rattle.mints.proofs.Fields.{account-state, mint-state, state-here, state-other, length-state}
 
--- the state of a row that is joined to another mint, if it is filled in
+-- the state of a row that is in doubt, if it is filled in
 unfoldable pub marked : ℕ → Bool → ℕ
 marked s b = cond (eqb s 3 && b) 4 s
 
@@ -33,14 +33,6 @@ marked-mint s b = by-cases (ℕ-discrete s 3) (λ e. rw (e, marked-filled b) (go
     go : (b : Bool) → ltb 1 (cond b 4 3) ≡ ltb 1 3
     go true = refl
     go false = refl
-
-marked-twice : (b : Bool) → marked (cond b 4 3) true ≡ 4
-unfolding marked
-marked-twice true = refl
-marked-twice false = refl
-
-pub marked-again : (s : ℕ) (b : Bool) → marked (marked s b) true ≡ marked s true
-marked-again s b = by-cases (ℕ-discrete s 3) (λ e. rw (e, marked-filled b, marked-filled true) (marked-twice b)) (λ n. rw (marked-other s b n))
 
 pub marked-still : (s : ℕ) → marked s false ≡ s
 marked-still s = by-cases (ℕ-discrete s 3) (λ e. rw (e, marked-filled false)) (λ n. marked-other s false n)

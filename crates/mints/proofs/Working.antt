@@ -13,10 +13,10 @@ use Rattle.pack.specs.Invocation.{instructionAt}
 use Rattle.evidence.specs.Evidence.{recorded}
 use Rattle.evidence.specs.MintTable.{MintAnswer}
 use Rattle.mints.specs.declared.Inferred.the-variants.{Made}
-use Rattle.mints.specs.Cells.{Fits}
+use Rattle.mints.specs.Cells.{Fits, Within}
 use Rattle.mints.specs.Gather.{tokenAt, Gathered, gatherAt, gatherTo}
 use Rattle.mints.specs.Prepare.{laidOf, begun, gatheredOf}
-use Rattle.mints.specs.Pass.{handedOn}
+use Rattle.mints.specs.Doubt.{handedOn}
 use Rattle.mints.specs.Conclude.{Concluded, concluded}
 use Rattle.mints.specs.Order.{sortTo, rowsBytes, mintsTo}
 use Rattle.mints.specs.Inference.{inferred, inferredIn, answerOf, mintBytes, finalOf}
@@ -47,11 +47,14 @@ module _ (ks b p o : List ℕ) (few : keyCount ks ≤ 256) (short : length o ≤
   state : Collected (laidOf ks .rows) (accounts ks b p o few short) 1024 (record { noted = record { table = t; room = room }; from = f; to = g; count = count }) (recorded (evidenceIn ks b p o few short)) (transfersIn ks b p o few short)
   state = subst (λ (x : Gathered). Collected (laidOf ks .rows) (accounts ks b p o few short) 1024 x (recorded (evidenceIn ks b p o few short)) (transfersIn ks b p o few short)) e (prepared ks b p o few short)
 
-  pub sources-fit : Fits t f
-  sources-fit i = omega (arith, state .sources i, state .notes .holds .long)
+  pub sources-within : Within (laidOf ks .rows) f
+  sources-within i = state .sources i
 
-  pub targets-fit : Fits t g
-  targets-fit i = omega (arith, state .targets i, state .notes .holds .long)
+  pub targets-within : Within (laidOf ks .rows) g
+  targets-within i = state .targets i
+
+  pub rows-long : laidOf ks .rows * mintWidth ≤ length t
+  rows-long = state .notes .holds .long
 
   pub counted : (count ≤ 1024) × (count ≤ length f) × (count ≤ length g)
   counted =
@@ -65,7 +68,7 @@ module _ (ks b p o : List ℕ) (few : keyCount ks ≤ 256) (short : length o ≤
 
   -- and what handing on comes to
   pub concluded-is : {v r : List ℕ} {table : List ℕ} {rows final passed : ℕ} → laidOf ks ≡ record { table = v; row = r; rows = rows }
-      → handedOn f g count t room ≡ record { table = table; room = final; passes = passed }
+      → handedOn f g count t rows room ≡ record { table = table; room = final; passes = passed }
       → concluded ks b p o ≡ record { table = table; row = r; rows = rows; room = final; passes = passed }
   unfolding concluded
   concluded-is l h = rw (e, l, h)

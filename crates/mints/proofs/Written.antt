@@ -3,30 +3,33 @@
 -- Assumes nothing.
 use mathlib.Core.Path.{_≡_, refl, sym, ap, _∙_, subst}
 use mathlib.Core.Logic.{_≢_, by-cases}
-use mathlib.Core.Bool.{Bool, true, false, cond}
+use mathlib.Core.Bool.{Bool, true, false, cond, false≢true}
 use mathlib.Core.Option.{none, some, Option·none-ne-some, Option·some-injective}
 use mathlib.Core.List.{List, [], _∷_, map, List·Memᴰ, Memᴰ·map, Memᴰ·of-map, Memᴰ·cast}
 use Prim.Native.Nat.{ℕ, zero, suc, _-_, _*_, _≤_, _<_}
 use native.Mathlib.Decide.{ℕ-discrete}
 use native.Mathlib.Omega.{arith}
-use lib.Dec.{ltb}
+use lib.Dec.{eqb, ltb}
 use lib.ListN.{getD, drop}
 use lib.Seq.{take-add, drop-drop}
-use borrow.Author.Tests.{lt-ltb, ltb-true}
+use borrow.Author.Tests.{eq-eqb, eqb-true, lt-ltb, ltb-true}
 use Rattle.wire.specs.Order.{Below}
 use Rattle.wire.proofs.Order.{ltKey-true, ltKey-false}
 use Rattle.wire.specs.Ascending.{Ascending, asc-nil}
 use Rattle.wire.proofs.Ascending.{ascending-put, ascending-map}
 use Rattle.ids.specs.Keys.{Key, zeroKey}
-use Rattle.evidence.specs.Table.{Table, lookup}
+use Rattle.evidence.specs.Table.{Table, lookup, Has}
+use Rattle.evidence.proofs.Table.{lookup-has, lookup-lacks}
 use Rattle.evidence.specs.Evidence.{Evidence, recorded}
+use Rattle.evidence.proofs.Recording.{has-one-recorded, lacks-free}
 use Rattle.evidence.specs.Passes.{Transfers}
 use Rattle.evidence.proofs.Infer.{Settled, settled-distinct}
-use Rattle.evidence.specs.Final.{final}
-use Rattle.evidence.specs.Marks.{opposed, markOf}
+use Rattle.evidence.proofs.Chains.{settled-sound}
+use Rattle.evidence.specs.Marks.{markOf, Mark, mark-recorded}
+use Rattle.evidence.proofs.Marks.{mark-unique, mark-right as theory-right}
+use Rattle.evidence.proofs.Doubts.{doubtful-mark, sure-mark}
 use Rattle.evidence.specs.MintTable.{MintRow, mintTable, mintIn}
 use Rattle.evidence.proofs.MintTable.{table-mint}
-use Rattle.evidence.proofs.Marking.{mark-zero, mark-filled}
 use Rattle.evidence.proofs.Written as theory
 use Rattle.mints.specs.Cells.{accountAt, mintAt, stateAt, stateSays}
 use Rattle.mints.specs.Order.{spotIn, putIn, sortTo, rowBytes, rowsBytes, shownMint, mintsTo}
@@ -35,7 +38,8 @@ use Rattle.mints.proofs.Sorting.{spot-bound, spot-before, spot-at, sort
 use Rattle.mints.proofs.Holding.{RowsApart, was}
 use Rattle.mints.proofs.Stepped.{Held}
 use Rattle.mints.proofs.States.{marked-filled, marked-other}
-use Rattle.mints.proofs.Marked.{Marked, has-mint, final-row}
+use Rattle.mints.proofs.Filled.{final-row}
+use Rattle.mints.proofs.Marked.{Marked, has-mint}
 
 -- rows with different accounts are put in order
 pub ascends : (t : List ℕ) (n : ℕ) → ((r q : ℕ) → r < n → q < n → accountAt t r ≡ accountAt t q → r ≡ q) → Ascending (accountAt t) (sortTo t n)
@@ -68,36 +72,42 @@ unfolding rowsBytes rowBytes tableBytes cell
 cells-bytes t [] = refl
 cells-bytes t (r ∷ l) = rw (cells-bytes t l, take-add 32 32 (drop (r * mintWidth) t), drop-drop 32 (r * mintWidth) t)
 
-module _ {n : ℕ} {α : ℕ → Key} {e : Evidence} {ps : Transfers} {t : Table} (p : RowsApart n α) (s : Settled e ps t) {w v : List ℕ} (h : Held n α (recorded e) w t) (m : Marked n α t ps w v) where
+module _ {n : ℕ} {α : ℕ → Key} {e : Evidence} {ps : Transfers} {t : Table} (p : RowsApart n α) (s : Settled e ps t) {w v : List ℕ} (h : Held n α (recorded e) w t) (m : Marked n α e ps t w v) where
   account-is : (r : ℕ) → r < n → accountAt v r ≡ α r
   account-is r k = m .account r ∙ h .now .account r k
 
   positive : (r : ℕ) → 1 < stateAt w r → 0 < r
   positive r o = by-cases (ℕ-discrete r 0) (λ z. absurd (omega (arith, ap (λ (q : ℕ). stateAt w q) z ∙ h .now .first))) (λ z. omega arith)
 
-  -- the mark of a row, by its state before the marks
-  mark-right : (r : ℕ) → 0 < r → r < n → (x : ℕ) → stateAt w r ≡ suc (suc x) → x ≤ 1 → stateAt v r - 2 ≡ markOf (recorded e) ps (final t) (α r)
-  unfolding was
-  mark-right r z k zero q l =
-      rw (m .state r k, q, marked-other 2 (opposed (final t) ps (α r)) (λ f. omega arith))
-      (sym (mark-zero (recorded e) ps (final t) (α r) (mintAt w r) (h .then .wrote r z k ∙ rw q)))
-  mark-right r z k (suc zero) q l =
-      rw (m .state r k, q, marked-filled (opposed (final t) ps (α r)))
-      (go (opposed (final t) ps (α r)) ∙ sym (mark-filled (recorded e) ps (final t) (α r) (h .then .wrote r z k ∙ rw q)))
-    where
-      go : (b : Bool) → cond b 4 3 - 2 ≡ cond b 2 1
-      go true = refl
-      go false = refl
-  mark-right r z k (suc (suc x)) q l = absurd (omega arith)
-
   said : (r x : ℕ) → 0 < r → r < n → stateAt w r ≡ suc (suc x) → lookup t (α r) ≡ some (mintAt w r)
   unfolding stateSays
   said r x z k q = h .now .said r z k ∙ rw q
 
-  row-right : (r : ℕ) → r < n → 1 < stateAt v r → (lookup t (accountAt v r) ≡ some (mintAt v r)) × (mintAt v r ≢ zeroKey) × (stateAt v r - 2 ≡ markOf (recorded e) ps (final t) (accountAt v r))
+  -- the mark of a row, by its state before the marks
+  mark-right : (r : ℕ) → 0 < r → r < n → (x : ℕ) → stateAt w r ≡ suc (suc x) → x ≤ 1 → stateAt v r - 2 ≡ markOf e ps (α r)
+  unfolding was
+  mark-right r z k x q l = mark-unique (by-state x q l) (theory-right e ps (α r) ((settled-sound s) .chain has (h .now .mint r k (omega arith))))
+    where
+      has : Has (α r) (mintAt w r) t
+      has = lookup-has t (said r x z k q)
+
+      by-doubt : lookup (recorded e) (α r) ≡ none → stateAt w r ≡ 3 → (b : Bool) → eqb (getD (m .label) r 0) 0 ≡ b → Mark e ps (α r) (cond b 4 3 - 2)
+      by-doubt o y true d = doubtful-mark s (lacks-free (lookup-lacks (recorded e) o)) (m .tells r k y .0 (eqb-true _ _ d))
+      by-doubt o y false d = sure-mark s (lacks-free (lookup-lacks (recorded e) o)) has (λ u. false≢true (sym d ∙ eq-eqb _ _ (m .tells r k y .1 u)))
+
+      by-state : (x : ℕ) → stateAt w r ≡ suc (suc x) → x ≤ 1 → Mark e ps (α r) (stateAt v r - 2)
+      by-state zero q l =
+          rw (m .state r k, q, marked-other 2 (eqb (getD (m .label) r 0) 0) (λ f. omega arith))
+          (mark-recorded (has-one-recorded (lookup-has (recorded e) (h .then .wrote r z k ∙ rw q)) (h .now .mint r k (omega arith))))
+      by-state (suc zero) q l =
+          rw (m .state r k, q, marked-filled (eqb (getD (m .label) r 0) 0))
+          (by-doubt (h .then .wrote r z k ∙ rw q) q (eqb (getD (m .label) r 0) 0) refl)
+      by-state (suc (suc x)) q l = absurd (omega arith)
+
+  row-right : (r : ℕ) → r < n → 1 < stateAt v r → (lookup t (accountAt v r) ≡ some (mintAt v r)) × (mintAt v r ≢ zeroKey) × (stateAt v r - 2 ≡ markOf e ps (accountAt v r))
   row-right r k o = go (stateAt w r) refl (ltb-true 1 (stateAt w r) (sym (has-mint m r k) ∙ lt-ltb 1 (stateAt v r) o))
     where
-      go : (x : ℕ) → stateAt w r ≡ x → 1 < stateAt w r → (lookup t (accountAt v r) ≡ some (mintAt v r)) × (mintAt v r ≢ zeroKey) × (stateAt v r - 2 ≡ markOf (recorded e) ps (final t) (accountAt v r))
+      go : (x : ℕ) → stateAt w r ≡ x → 1 < stateAt w r → (lookup t (accountAt v r) ≡ some (mintAt v r)) × (mintAt v r ≢ zeroKey) × (stateAt v r - 2 ≡ markOf e ps (accountAt v r))
       go zero q i = absurd (omega arith)
       go (suc zero) q i = absurd (omega arith)
       go (suc (suc x)) q i =
@@ -127,7 +137,7 @@ module _ {n : ℕ} {α : ℕ → Key} {e : Evidence} {ps : Transfers} {t : Table
       go (r, y, l, f) = state r y l f (stateAt w r) refl
 
   -- the ordered rows are the mint table
-  pub table-right : map (cell v) (sortTo v n) ≡ mintTable (recorded e) ps t
+  pub table-right : map (cell v) (sortTo v n) ≡ mintTable e ps t
   unfolding cell
   table-right =
       theory.written
@@ -135,29 +145,29 @@ module _ {n : ℕ} {α : ℕ → Key} {e : Evidence} {ps : Transfers} {t : Table
       (ascending-map (cell v) (λ x. x .0) (ascends v n (λ r q k l f. p .apart r q k l (sym (account-is r k) ∙ f ∙ account-is q l))))
       (record { right = λ i. right i; all = λ a k q z. all a k q z })
     where
-      right : {a k : Key} {j : ℕ} → List·Memᴰ (a, k, j) (map (cell v) (sortTo v n)) → (lookup t a ≡ some k) × (k ≢ zeroKey) × (j ≡ markOf (recorded e) ps (final t) a)
+      right : {a k : Key} {j : ℕ} → List·Memᴰ (a, k, j) (map (cell v) (sortTo v n)) → (lookup t a ≡ some k) × (k ≢ zeroKey) × (j ≡ markOf e ps a)
       right i =
           let y = Memᴰ·of-map (cell v) (sortTo v n) i in
           let f = sorted-mem v n (y .1) in
-          subst (λ (x : MintRow). (lookup t (x .0) ≡ some (x .1)) × (x .1 ≢ zeroKey) × (x .2 ≡ markOf (recorded e) ps (final t) (x .0))) (y .2) (row-right (y .0) (f .0) (f .1))
+          subst (λ (x : MintRow). (lookup t (x .0) ≡ some (x .1)) × (x .1 ≢ zeroKey) × (x .2 ≡ markOf e ps (x .0))) (y .2) (row-right (y .0) (f .0) (f .1))
 
-      all : (a k : Key) → lookup t a ≡ some k → k ≢ zeroKey → List·Memᴰ (a, k, markOf (recorded e) ps (final t) a) (map (cell v) (sortTo v n))
+      all : (a k : Key) → lookup t a ≡ some k → k ≢ zeroKey → List·Memᴰ (a, k, markOf e ps a) (map (cell v) (sortTo v n))
       all a k q z =
           let y = row-there a k q z in
           let f = row-right (y .0) (y .1) (y .2) in
-          Memᴰ·cast (sym (row-eq (y .3) (y .4) (f .2 ∙ ap (λ (c : Key). markOf (recorded e) ps (final t) c) (y .3)))) (Memᴰ·map (cell v) (mem-sorted v n (y .1) (y .2)))
+          Memᴰ·cast (sym (row-eq (y .3) (y .4) (f .2 ∙ ap (λ (c : Key). markOf e ps c) (y .3)))) (Memᴰ·map (cell v) (mem-sorted v n (y .1) (y .2)))
 
   -- the mint of a row is that of its account
-  pub mint-right : (r : ℕ) → r < n → shownMint v r ≡ orZero (mintIn (mintTable (recorded e) ps t) (α r))
+  pub mint-right : (r : ℕ) → r < n → shownMint v r ≡ orZero (mintIn (mintTable e ps t) (α r))
   unfolding shownMint orZero
-  mint-right r k = rw (table-mint (recorded e) ps t (α r), final-row p s (h .now) r k, has-mint m r k, m .mint r) (go (ltb 1 (stateAt w r)))
+  mint-right r k = rw (table-mint e ps t (α r), final-row p s (h .now) r k, has-mint m r k, m .mint r) (go (ltb 1 (stateAt w r)))
     where
       go : (b : Bool) → cond b (mintAt w r) zeroKey ≡ orZero (cond b (some (mintAt w r)) none)
       go true = refl
       go false = refl
 
   -- the mints by key index
-  pub mints-right : (row : List ℕ) (κ : ℕ → Key) (c : ℕ) → ((i : ℕ) → i < c → (getD row i 0 < n) × (α (getD row i 0) ≡ κ i)) → mintsTo v row c ≡ mintsOf (mintTable (recorded e) ps t) κ c
+  pub mints-right : (row : List ℕ) (κ : ℕ → Key) (c : ℕ) → ((i : ℕ) → i < c → (getD row i 0 < n) × (α (getD row i 0) ≡ κ i)) → mintsTo v row c ≡ mintsOf (mintTable e ps t) κ c
   unfolding mintsTo mintsOf
   mints-right row κ zero f = refl
   mints-right row κ (suc c) f =

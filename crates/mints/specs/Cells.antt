@@ -19,13 +19,17 @@ accountAt t r = take 32 (drop (r * mintWidth) t)
 abbrev pub mintAt : List ℕ → ℕ → Key
 mintAt t r = take 32 (drop (r * mintWidth + 32) t)
 
--- the state of row r: 0 no mint, 1 ambiguous, 2 recorded, 3 filled in, 4 filled in and joined to another mint
+-- the state of row r: 0 no mint, 1 ambiguous, 2 recorded, 3 filled in, 4 filled in and in doubt
 abbrev pub stateAt : List ℕ → ℕ → ℕ
 stateAt t r = getD t (r * mintWidth + 64) 0
 
 -- every row number of a list is that of a whole row
 abbrev pub Fits : List ℕ → List ℕ → Type 0
 Fits t l = (i : ℕ) → getD l i 0 * mintWidth + mintWidth ≤ length t
+
+-- every row number of a list is that of one of n rows
+abbrev pub Within : ℕ → List ℕ → Type 0
+Within n l = (i : ℕ) → getD l i 0 < n
 
 -- the table with a mint and a state in row r
 unfoldable pub withMint : List ℕ → ℕ → Key → ℕ → List ℕ

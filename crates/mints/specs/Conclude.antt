@@ -2,7 +2,7 @@
 -- Assumes nothing.
 use Prim.Native.Nat.{ℕ}
 use mathlib.Core.List.{List}
-use Rattle.mints.specs.Pass.{handedOn}
+use Rattle.mints.specs.Doubt.{handedOn}
 use Rattle.mints.specs.Prepare.{laidOf, gatheredOf}
 
 pub record Concluded : Type 0 where
@@ -21,5 +21,5 @@ pub record Concluded : Type 0 where
 unfoldable pub concluded : List ℕ → List ℕ → List ℕ → List ℕ → Concluded
 concluded ks b p o =
     let g = gatheredOf ks b p o in
-    let x = handedOn (g .from) (g .to) (g .count) (g .noted .table) (g .noted .room) in
+    let x = handedOn (g .from) (g .to) (g .count) (g .noted .table) (laidOf ks .rows) (g .noted .room) in
     record { table = x .table; row = laidOf ks .row; rows = laidOf ks .rows; room = x .room; passes = x .passes }

@@ -2,6 +2,7 @@ pub mod Cells
 pub mod Lay
 pub mod Note
 pub mod Pass
+pub mod Doubt
 pub mod Gather
 pub mod Programs
 pub mod Order

@@ -1,12 +1,11 @@
 -- Plain transfers over the working table.
 -- Assumes nothing.
 use Prim.Native.Nat.{ℕ, zero, suc, _+_}
-use mathlib.Core.Bool.{Bool, false, cond, not}
+use mathlib.Core.Bool.{cond}
 use mathlib.Core.List.{List}
 use lib.Dec.{eqb, ltb}
 use lib.ListN.{getD}
-use Rattle.wire.specs.Same.{same}
-use Rattle.mints.specs.Cells.{mintAt, stateAt, withMint, withState}
+use Rattle.mints.specs.Cells.{mintAt, stateAt, withMint}
 use Rattle.mints.specs.Note.{Noted}
 
 -- the mint of row a in row b, which is then filled in
@@ -48,24 +47,3 @@ passesFrom f g n (suc k) t room p =
 -- passes until one adds nothing, none where nothing is recorded
 unfoldable pub passes : List ℕ → List ℕ → ℕ → List ℕ → ℕ → Ran
 passes f g n t room = cond (eqb room 0) (record { table = t; room = 0; passes = 0 }) (passesFrom f g n 512 t room 0)
-
--- whether both rows have a mint, and different ones
-unfoldable pub differAt : List ℕ → ℕ → ℕ → Bool
-differAt t a b = cond (ltb 1 (stateAt t a)) (cond (ltb 1 (stateAt t b)) (not (same (mintAt t a) (mintAt t b))) false) false
-
--- a filled-in row is marked
-unfoldable pub doubtAt : List ℕ → ℕ → List ℕ
-doubtAt t r = cond (eqb (stateAt t r) 3) (withState t r 4) t
-
--- the first i transfers mark their filled-in ends where the mints differ
-unfoldable pub doubtsTo : List ℕ → List ℕ → List ℕ → ℕ → List ℕ
-doubtsTo f g t zero = t
-doubtsTo f g t (suc i) =
-    let u = doubtsTo f g t i in
-    cond (differAt u (getD f i 0) (getD g i 0)) (doubtAt (doubtAt u (getD f i 0)) (getD g i 0)) u
-
--- the passes, and then the marks
-unfoldable pub handedOn : List ℕ → List ℕ → ℕ → List ℕ → ℕ → Ran
-handedOn f g n t room =
-    let x = passes f g n t room in
-    record { table = doubtsTo f g (x .table) n; room = x .room; passes = x .passes }

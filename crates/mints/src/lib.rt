@@ -14,6 +14,7 @@ ghost use Rattle.mints.specs.Conclude.{concluded};
 ghost use Rattle.mints.specs.Order.{sortTo, rowsBytes, mintsTo};
 ghost use Rattle.mints.specs.Inference.{inferredOf, answerOf, mintBytes, finalFor};
 
+mod doubt;
 mod notes;
 mod order;
 mod pass;
@@ -56,7 +57,7 @@ fn conclude(
     let mut from = [0u32; 1024];
     let mut to = [0u32; 1024];
     let g = notes::gather(keys, pack, at, row, table, &mut from, &mut to, programs);
-    let ran = pass::hand_on(table, &from, &to, g.count, recorded + g.room);
+    let ran = doubt::hand_on(table, rows, &from, &to, g.count, recorded + g.room);
     Concluded {
         rows,
         room: ran.room,

@@ -1,4 +1,4 @@
-// Plain transfers over the table: they hand a mint to the end that has none, pass after pass; afterwards they tell which filled-in mints are in doubt.
+// Plain transfers over the table: they hand a mint to the end that has none, pass after pass.
 //
 // A transfer is two row numbers, found once for each key, so a step looks at two state bytes and searches nothing.
 use crate::WIDTH;
@@ -8,7 +8,7 @@ ghost use Prim.Native.Nat.{_+_, _*_, _≤_};
 ghost use lib.ListN.{length};
 ghost use Rattle.mints.specs.Bytes.{mintWidth};
 ghost use Rattle.mints.specs.Cells.{Fits};
-ghost use Rattle.mints.specs.Pass.{handAt, stepAt, filledAt, passTo, passes, differAt, doubtAt, doubtsTo, handedOn};
+ghost use Rattle.mints.specs.Pass.{handAt, stepAt, filledAt, passTo, passes};
 
 // Copies the mint of row a to row b, which is then filled in.
 fn hand(table: &mut [u8], a: usize, b: usize)
@@ -67,7 +67,7 @@ pub struct Ran {
 }
 
 // Passes until one adds nothing, at most 512 (513 tells that these are too few); none where nothing is recorded.
-fn run(table: &mut [u8], from: &[u32], to: &[u32], n: usize, recorded: usize) -> Ran
+pub(crate) fn run(table: &mut [u8], from: &[u32], to: &[u32], n: usize, recorded: usize) -> Ran
     requires { ⌜ (n ≤ 1024) × (recorded ≤ 1152921504606846976) ⌝ }
     requires { ⌜ (n ≤ length (now from)) × (n ≤ length (now to)) × Fits (now table) (now from) × Fits (now table) (now to) ⌝ }
     ensures { λ r. ⌜ passes (now (from .entry)) (now (to .entry)) n (now (table .entry)) recorded
@@ -87,60 +87,4 @@ fn run(table: &mut [u8], from: &[u32], to: &[u32], n: usize, recorded: usize) ->
         room += added;
     }
     Ran { passes: 513, room }
-}
-
-// Whether both rows have a mint, and different ones.
-fn differ(table: &[u8], a: usize, b: usize) -> bool
-    requires { ⌜ (a * mintWidth + mintWidth ≤ length (now table)) × (b * mintWidth + mintWidth ≤ length (now table)) ⌝ }
-    ensures { λ r. ⌜ r ≡ differAt (now (table .entry)) a b ⌝ }
-{
-    if table[a * WIDTH + 64] <= 1 {
-        return false;
-    }
-    if table[b * WIDTH + 64] <= 1 {
-        return false;
-    }
-    let x = a * WIDTH + 32;
-    let y = b * WIDTH + 32;
-    !wire::equal(&table[x..x + 32], &table[y..y + 32])
-}
-
-// Marks a row that is filled in.
-fn doubt(table: &mut [u8], r: usize)
-    requires { ⌜ r * mintWidth + mintWidth ≤ length (now table) ⌝ }
-    ensures { λ _. ⌜ now (table .exit) ≡ doubtAt (now (table .entry)) r ⌝ }
-{
-    if table[r * WIDTH + 64] == 3 {
-        table[r * WIDTH + 64] = 4;
-    }
-}
-
-// Marks the filled-in ends of every transfer whose ends have different mints.
-fn doubts(table: &mut [u8], from: &[u32], to: &[u32], n: usize)
-    requires { ⌜ (n ≤ length (now from)) × (n ≤ length (now to)) × Fits (now table) (now from) × Fits (now table) (now to) ⌝ }
-    ensures { λ _. ⌜ now (table .exit) ≡ doubtsTo (now (from .entry)) (now (to .entry)) (now (table .entry)) n ⌝ }
-{
-    let mut i = 0;
-    while i < n {
-        let a = from[i] as usize;
-        let b = to[i] as usize;
-        i += 1;
-        if !differ(table, a, b) {
-            continue;
-        }
-        doubt(table, a);
-        doubt(table, b);
-    }
-}
-
-// The passes, and then the marks, which count only where the passes are not too many.
-pub(crate) fn hand_on(table: &mut [u8], from: &[u32], to: &[u32], n: usize, recorded: usize) -> Ran
-    requires { ⌜ (n ≤ 1024) × (recorded ≤ 1152921504606846976) ⌝ }
-    requires { ⌜ (n ≤ length (now from)) × (n ≤ length (now to)) × Fits (now table) (now from) × Fits (now table) (now to) ⌝ }
-    ensures { λ r. ⌜ handedOn (now (from .entry)) (now (to .entry)) n (now (table .entry)) recorded
-        ≡ record { table = now (table .exit); room = r .room; passes = r .passes } ⌝ }
-{
-    let ran = run(table, from, to, n, recorded);
-    doubts(table, from, to, n);
-    ran
 }

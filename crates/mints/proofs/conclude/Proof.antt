@@ -1,8 +1,9 @@
 -- Each call leaves the record that the next one begins with, so the four equations put together are the definition; the rows that were laid are whole, so
 -- every row number fits.
-use Rattle.mints.proofs.Preparing.{laid-is, laid-fits, gathered-is}
-use Rattle.mints.proofs.Working.{sources-fit, targets-fit, counted, noted-few, concluded-is}
+use Rattle.mints.proofs.Preparing.{laid-is, laid-fits, rows-laid, gathered-is}
+use Rattle.mints.proofs.Working.{sources-within, targets-within, rows-long, counted, noted-few, concluded-is}
 use Rattle.mints.specs.Bytes.{mintWidth}
+use Rattle.mints.specs.Prepare.{laidOf}
 use Rattle.ids.specs.Keys.{keyCount}
 use lib.ListN.{length, length-replicate}
 use Prim.Native.Nat.{ℕ, _*_, _≤_}
@@ -15,7 +16,7 @@ use Rattle.mints.proofs.conclude.Reads as reads
 use Rattle.mints.proofs.conclude.Lts as lts
 use Rattle.mints.proofs.notes.gather.Reads as gather-reads
 use Rattle.mints.proofs.notes.note_balances.Reads as note-balances-reads
-use Rattle.mints.proofs.pass.hand_on.Reads as hand-on-reads
+use Rattle.mints.proofs.doubt.hand_on.Reads as hand-on-reads
 use Rattle.mints.proofs.table.lay.Reads as lay-reads
 
 lay-requires : tie.Need-lay-requires
@@ -88,13 +89,19 @@ hand-on-requires c κs =
     let few : keyCount ks ≤ 256 = omega (arith, start .pre .0) in
     let rows = laid-is ks (a .table .now) (a .row .now) (start .pre .2) (start .pre .3) (at-lay .lay .ensures) in
     let e = gathered-is ks (a .balances .now) (a .pack .now) (a .at .now) rows (at-note-balances .note-balances .ensures) (at-gather .gather .ensures .0) in
+    let fit : laidOf ks .rows ≤ 257 = omega (arith, rows-laid ks few .few) in
     let k = counted ks (a .balances .now) (a .pack .now) (a .at .now) few (start .pre .1) e in (
-      (k .0, noted-few ks (a .balances .now) (a .pack .now) (a .at .now) few (start .pre .1) e (omega (arith, start .good .1 .0))),
+      (
+        k .0,
+        noted-few ks (a .balances .now) (a .pack .now) (a .at .now) few (start .pre .1) e (omega (arith, start .good .1 .0)),
+        rw rows at fit,
+        rw rows at (rows-long ks (a .balances .now) (a .pack .now) (a .at .now) few (start .pre .1) e),
+      ),
       (
         k .1,
         k .2,
-        sources-fit ks (a .balances .now) (a .pack .now) (a .at .now) few (start .pre .1) e,
-        targets-fit ks (a .balances .now) (a .pack .now) (a .at .now) few (start .pre .1) e,
+        λ i. rw rows at (sources-within ks (a .balances .now) (a .pack .now) (a .at .now) few (start .pre .1) e i),
+        λ i. rw rows at (targets-within ks (a .balances .now) (a .pack .now) (a .at .now) few (start .pre .1) e i),
       ),
     )
 

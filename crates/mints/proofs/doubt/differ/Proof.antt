@@ -1,12 +1,12 @@
 -- The tests are the definition's in its order, and the parts that are compared are the two mints.
-use Rattle.mints.specs.Pass.{differAt}
+use Rattle.mints.specs.Doubt.{differAt}
 use native.Mathlib.Nat.{add-sub-cancel-left}
 use borrow.Author.Tests.{lt-ltb, le-ltb}
 use borrow.Author.Needs.{needs}
-use Rattle.mints.proofs.pass.differ.Statement.{statement}
-use Rattle.mints.proofs.pass.differ.Tie as tie
-use Rattle.mints.proofs.pass.differ.Reads as reads
-use Rattle.mints.proofs.pass.differ.Lts as lts
+use Rattle.mints.proofs.doubt.differ.Statement.{statement}
+use Rattle.mints.proofs.doubt.differ.Tie as tie
+use Rattle.mints.proofs.doubt.differ.Reads as reads
+use Rattle.mints.proofs.doubt.differ.Lts as lts
 use Rattle.wire.proofs.equal.Reads as equal-reads
 
 mul-if1 : tie.Need-mul-if1

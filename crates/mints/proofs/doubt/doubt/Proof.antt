@@ -1,12 +1,12 @@
 -- The test is the definition's, and a marked row is its state stored.
-use Rattle.mints.specs.Pass.{doubtAt}
+use Rattle.mints.specs.Doubt.{doubtAt}
 use Rattle.mints.specs.Cells.{withState}
 use borrow.Author.Tests.{eq-eqb, ne-eqb}
 use borrow.Author.Needs.{needs}
-use Rattle.mints.proofs.pass.doubt.Statement.{statement}
-use Rattle.mints.proofs.pass.doubt.Tie as tie
-use Rattle.mints.proofs.pass.doubt.Reads as reads
-use Rattle.mints.proofs.pass.doubt.Lts as lts
+use Rattle.mints.proofs.doubt.doubt.Statement.{statement}
+use Rattle.mints.proofs.doubt.doubt.Tie as tie
+use Rattle.mints.proofs.doubt.doubt.Reads as reads
+use Rattle.mints.proofs.doubt.doubt.Lts as lts
 
 mul-if1 : tie.Need-mul-if1
 mul-if1 c = search needs
