@@ -1,5 +1,5 @@
 -- Order does not matter: two packs with the same evidence, in any order, and what the call leaves of them in table 0. It leaves the rows of the pack's mint
--- table, and evidence in another order makes a table like it.
+-- table, and evidence in another order makes a table like it, but for mints that are in doubt.
 -- Assumes nothing.
 use mathlib.Core.Path.{_≡_, refl, sym, ap, _∙_}
 use mathlib.Core.Logic.{_≢_, _⊎_, _↔_, inl, inr, ⊎-elim}
@@ -11,13 +11,16 @@ use native.Mathlib.Omega.{arith}
 use lib.ListN.{length, length-map}
 use Rattle.wire.specs.Ascending.{Ascending}
 use Rattle.wire.proofs.Ascending.{ascending-once}
+use Rattle.wire.proofs.Members.{same-sym}
 use Rattle.ids.specs.Keys.{Key}
 use Rattle.evidence.specs.Evidence.{Free, One}
 use Rattle.evidence.specs.Chains.{Chain}
-use Rattle.evidence.specs.Independence.{Apart, Unjoined}
+use Rattle.evidence.specs.Marks.{Doubt}
+use Rattle.evidence.proofs.Marks.{same-doubt}
+use Rattle.evidence.specs.Independence.{Apart, Unjoined, NoneInDoubt, DifferInDoubt}
 use Rattle.evidence.proofs.Independence.{unjoined-apart}
-use Rattle.evidence.specs.MintTable.{MintAnswer, rowAccounts}
-use Rattle.evidence.proofs.Order.{row-right, row-reached, row-order, row-kept, row-recorded, row-filled, Alike}
+use Rattle.evidence.specs.MintTable.{MintAnswer, rowAccounts, rowMarks}
+use Rattle.evidence.proofs.Order.{row-right, row-reached, row-order, row-kept, row-recorded, row-filled, row-doubt, row-apart, row-marks, same-rows, Alike}
 use Rattle.mints.specs.Bytes.{mintRow}
 use Rattle.pack.specs.Items.{rows}
 use Rattle.pack.specs.Invocation.{Position, Invocation}
@@ -33,7 +36,7 @@ use Rattle.route.specs.Tables.{positionsOf, instructionsOf, tablesWith}
 use Rattle.route.specs.Route.{Lent, Routed, refused, accepted, route}
 use Rattle.route.specs.Order.{evidenceIn, plainsIn, mintsIn, SameEvidence, mintsLeft, Succeeds, InputTaken, NoRoom, FilledWith, FilledByChains}
 use Rattle.route.proofs.OrderTable.{mints-rows, mints-written}
-use Rattle.route.proofs.OrderMints.{made, sized, rows-room, tables-alike}
+use Rattle.route.proofs.OrderMints.{made, sized, rows-room, same-evidence, same-plains, tables-alike}
 use Rattle.route.proofs.Ways.{Ways, early, crowded, later, good, ways}
 
 -- table 0 after a call that is not refused: the rows of the pack's mint table, and they are read back from the bytes
@@ -175,6 +178,17 @@ module _ (names p : List ℕ) (l : Lent) where
       → ((n ≡ 1) ⊎ (n ≡ 2)) ↔ Free (evidenceIn p) a
   left-filled e i = let t = left e in row-filled (made p (t .is)) (rw (t .read) at i)
 
+  -- it is 2 exactly where chains with two different recorded mints reach the account
+  pub left-doubt : {a m : Key} {n : ℕ} → Succeeds (route names p l) → List·Memᴰ (a, m, n) (mintsLeft (route names p l)) → (n ≡ 2) ↔ Doubt (evidenceIn p) (plainsIn p) a
+  left-doubt e i = let t = left e in row-doubt (made p (t .is)) (rw (t .read) at i)
+
+  -- and so in every pack with the same evidence
+  pub doubt-everywhere : {q : List ℕ} {a m : Key} {n : ℕ} → SameEvidence p q → Succeeds (route names p l) → List·Memᴰ (a, m, n) (mintsLeft (route names p l))
+      → (n ≡ 2) ↔ Doubt (evidenceIn q) (plainsIn q) a
+  doubt-everywhere h e i =
+      let d = left-doubt e i in
+      (λ k. same-doubt (same-evidence h) (same-plains h) (d .0 k), λ k. d .1 (same-doubt (same-sym (same-evidence h)) (same-sym (same-plains h)) k))
+
   -- (ii) an account with no recorded mint is filled in exactly when a chain reaches it, with the mint at the start of one
   pub filled-in : {a : Key} → Succeeds (route names p l) → Free (evidenceIn p) a → FilledByChains p (mintsLeft (route names p l)) a
   filled-in {a} e f = record { exactly = (λ x. (x .0, left-starts e (x .1 .row)), λ c. filled (left-reached e .1 c)); start = λ i. left-starts e i }
@@ -199,9 +213,21 @@ module _ (names : List ℕ) (l : Lent) {p q : List ℕ} (h : SameEvidence p q) (
       → List·Memᴰ (c, m, 0) (mintsLeft (route names p l)) × List·Memᴰ (c, m, 0) (mintsLeft (route names q l))
   same-recorded o = rw (left names p l a .read, left names q l b .read) (alike-left .kept o)
 
-  -- (iii) where no account is reached by chains from two different recorded mints, table 0 is equal byte for byte
+  -- row by row the tables differ at most in the mint of an account with mark 2
+  pub differs-only-in-doubt : DifferInDoubt (mintsLeft (route names p l)) (mintsLeft (route names q l))
+  differs-only-in-doubt = rw (left names p l a .read, left names q l b .read) (alike-left .doubt)
+
+  -- so each account has the same mark in both, whatever the chains join
+  pub same-marks : rowMarks (mintsLeft (route names p l)) ≡ rowMarks (mintsLeft (route names q l))
+  same-marks = row-marks differs-only-in-doubt
+
+  -- and table 0 is equal byte for byte where the one has no mark 2
+  pub same-where-sure : NoneInDoubt (mintsLeft (route names p l)) → route names p l .mints ≡ route names q l .mints
+  same-where-sure d = rw (left names p l a .bytes, left names q l b .bytes, same-rows (alike-left .doubt) (rw (left names p l a .read) at d))
+
+  -- (iii) as it has none where no account is reached by chains from two different recorded mints
   pub same-bytes : Apart (evidenceIn p) (plainsIn p) → route names p l .mints ≡ route names q l .mints
-  same-bytes d = rw (left names p l a .bytes, left names q l b .bytes, alike-left .rows d)
+  same-bytes d = let t = left names p l a in same-where-sure (rw (t .read) (row-apart (made p (t .is)) d))
 
   -- so it is where no chain joins two accounts recorded with different mints
   pub same-bytes-unjoined : Unjoined (evidenceIn p) (plainsIn p) → route names p l .mints ≡ route names q l .mints

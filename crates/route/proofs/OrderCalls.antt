@@ -10,20 +10,31 @@ use Rattle.ids.specs.Keys.{Key}
 use Rattle.evidence.specs.Evidence.{Free, One}
 use Rattle.evidence.proofs.Evidence.{free-map}
 use Rattle.evidence.specs.Chains.{Chain}
-use Rattle.evidence.specs.Independence.{Apart, Unjoined}
+use Rattle.evidence.specs.Marks.{Doubt}
+use Rattle.evidence.specs.Independence.{Apart, Unjoined, NoneInDoubt, DifferInDoubt}
 use Rattle.evidence.proofs.Independence.{same-agree, same-chain, unjoined-apart}
-use Rattle.evidence.specs.MintTable.{rowAccounts}
+use Rattle.evidence.specs.MintTable.{rowAccounts, rowMarks}
+use Rattle.evidence.proofs.Order.{row-marks}
 use Rattle.route.specs.declared.Answer.{Answer}
 use Rattle.route.specs.Route.{Lent, lent, route, Leaves}
 use Rattle.route.specs.Order.{evidenceIn, plainsIn, SameEvidence, mintsRead, InputTaken, NoRoom, FilledByChains}
 use Rattle.route.proofs.OrderMints.{same-evidence, same-plains}
-use Rattle.route.proofs.Order.{filled-in, same-accounts, same-count, same-recorded, same-bytes, same-room}
+use Rattle.route.proofs.Order.{filled-in, left-doubt, doubt-everywhere, same-accounts, same-count, same-recorded, same-where-sure, same-bytes, same-room}
+use Rattle.route.proofs.Order as order
 
 -- one call, not refused
 module _ {names p t0 t1 t2 t3 t4 : List ℕ} {r : Answer} {o0 o1 o2 o3 o4 : List ℕ} (x : Leaves names p t0 t1 t2 t3 t4 r o0 o1 o2 o3 o4) (e : r .number ≡ 0) where
   -- (ii) an account with no recorded mint is filled in exactly when a chain reaches it, with the mint at the start of one
   pub table-filled-in : {a : Key} → Free (evidenceIn p) a → FilledByChains p (mintsRead (r .mints) o0) a
   table-filled-in f = rw (x .answer, x .mints) (filled-in names p (lent t0 t1 t2 t3 t4) (rw (x .answer) at e) f)
+
+  -- a mark is 2 exactly where chains with two different recorded mints reach the account
+  pub table-doubt : {a m : Key} {n : ℕ} → List·Memᴰ (a, m, n) (mintsRead (r .mints) o0) → (n ≡ 2) ↔ Doubt (evidenceIn p) (plainsIn p) a
+  table-doubt i = left-doubt names p (lent t0 t1 t2 t3 t4) (rw (x .answer) at e) (rw (x .answer, x .mints) at i)
+
+  -- and so in every pack with the same evidence
+  pub table-doubt-everywhere : {q : List ℕ} {a m : Key} {n : ℕ} → SameEvidence p q → List·Memᴰ (a, m, n) (mintsRead (r .mints) o0) → (n ≡ 2) ↔ Doubt (evidenceIn q) (plainsIn q) a
+  table-doubt-everywhere h i = doubt-everywhere names p (lent t0 t1 t2 t3 t4) h (rw (x .answer) at e) (rw (x .answer, x .mints) at i)
 
 -- two calls with the same names, tables of the same five lengths, and packs with the same evidence
 module _ {names p q t0 t1 t2 t3 t4 u0 u1 u2 u3 u4 : List ℕ} {r r′ : Answer} {o0 o1 o2 o3 o4 o0′ o1′ o2′ o3′ o4′ : List ℕ} (x : Leaves names p t0 t1 t2 t3 t4 r o0 o1 o2 o3 o4) (y : Leaves names q u0 u1 u2 u3 u4 r′ o0′ o1′ o2′ o3′ o4′) (k : lent t0 t1 t2 t3 t4 ≡ lent u0 u1 u2 u3 u4) (h : SameEvidence p q) where
@@ -67,7 +78,19 @@ module _ {names p q t0 t1 t2 t3 t4 u0 u1 u2 u3 u4 : List ℕ} {r r′ : Answer} 
         under : {c m : Key} → Chain (evidenceIn p) (plainsIn p) m c → Chain (evidenceIn q) (plainsIn q) m c
         under t = same-chain (same-evidence h) (same-plains h) t
 
-    -- (iii) no account reached from two different recorded mints: the two tables are equal, byte for byte
+    -- row by row the two tables differ at most in the mint of an account with mark 2
+    pub differs-only-in-doubt : DifferInDoubt (mintsRead (r .mints) o0) (mintsRead (r′ .mints) o0′)
+    differs-only-in-doubt = rw (x .answer, x .mints, answer-right, mints-right) (order.differs-only-in-doubt names here h first second)
+
+    -- so each account has the same mark in both
+    pub same-table-marks : rowMarks (mintsRead (r .mints) o0) ≡ rowMarks (mintsRead (r′ .mints) o0′)
+    same-table-marks = row-marks differs-only-in-doubt
+
+    -- and where the one has no mark 2 the two tables are equal, byte for byte
+    pub same-table-sure : NoneInDoubt (mintsRead (r .mints) o0) → o0 ≡ o0′
+    same-table-sure d = x .mints ∙ same-where-sure names here h first second (rw (x .answer, x .mints) at d) ∙ sym mints-right
+
+    -- (iii) as they are where no account is reached from two different recorded mints
     pub same-table : Apart (evidenceIn p) (plainsIn p) → o0 ≡ o0′
     same-table d = x .mints ∙ same-bytes names here h first second d ∙ sym mints-right
 

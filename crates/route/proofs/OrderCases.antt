@@ -1,9 +1,9 @@
--- What order does and does not decide, in two small pairs of packs: the premise `SameEvidence` is met, and the proviso of `same-bytes` is needed. Antt computes
+-- What order does and does not decide, in three small pairs of packs: the premise `SameEvidence` is met, and the proviso of `same-bytes` is needed. Antt computes
 -- what the calls leave.
 -- Assumes nothing.
 use mathlib.Core.Path.{_≡_, refl, sym, ap, ap₂, _∙_}
 use mathlib.Core.Logic.{_≢_}
-use mathlib.Core.List.{List, [], _∷_, List·Memᴰ·eq-of-singleton, List·Permᴰ·swap, Permᴰ·refl}
+use mathlib.Core.List.{List, [], _∷_, _++_, List·Memᴰ·eq-of-singleton, List·Permᴰ·swap, Permᴰ·refl}
 use Prim.Native.Nat.{ℕ}
 use native.Mathlib.Omega.{arith}
 use lib.ListN.{getD}
@@ -40,6 +40,10 @@ met = packOf (meeting (pays 0 2 ∷ pays 1 2 ∷ []))
 abbrev pub met-reversed : List ℕ
 met-reversed = packOf (meeting (pays 1 2 ∷ pays 0 2 ∷ []))
 
+-- a fourth account
+abbrev pub D : Key
+D = key 3
+
 -- A alone is recorded, with X; A pays B, and B pays C
 abbrev line : List Instruction → List ℕ
 line transfers = packOf (saying (keysFor SplToken 3) ((0, X) ∷ []) transfers [])
@@ -50,10 +54,21 @@ led = line (pays 0 1 ∷ pays 1 2 ∷ [])
 abbrev pub led-reversed : List ℕ
 led-reversed = line (pays 1 2 ∷ pays 0 1 ∷ [])
 
+-- A is X and B is Y; A pays C, C pays D, and D pays B
+abbrev between : List Instruction → List ℕ
+between transfers = packOf (saying (keysFor SplToken 3 ++ ((1, D) ∷ [])) ((0, X) ∷ (1, Y) ∷ []) transfers [])
+
+abbrev pub tied : List ℕ
+tied = between (pays 0 2 ∷ pays 2 4 ∷ pays 4 1 ∷ [])
+
+abbrev pub tied-later : List ℕ
+tied-later = between (pays 2 4 ∷ pays 0 2 ∷ pays 4 1 ∷ [])
+
 -- what each leaves of C, by computation; and all that is recorded in the second pair
 computed : Pair met met-reversed ((A, X, 0) ∷ (B, Y, 0) ∷ (C, X, 2) ∷ []) ((A, X, 0) ∷ (B, Y, 0) ∷ (C, Y, 2) ∷ []) 2 2
     × Pair led led-reversed ((A, X, 0) ∷ (B, X, 1) ∷ (C, X, 1) ∷ []) ((A, X, 0) ∷ (B, X, 1) ∷ (C, X, 1) ∷ []) 2 3
     × (evidenceIn led ≡ (A, X) ∷ [])
+    × Pair tied tied-later ((A, X, 0) ∷ (B, Y, 0) ∷ (C, X, 2) ∷ (D, X, 2) ∷ []) ((A, X, 0) ∷ (B, Y, 0) ∷ (C, X, 2) ∷ (D, Y, 2) ∷ []) 2 2
 unfolding opened key names workedRoom packOf
 computed = (
   record {
@@ -75,6 +90,15 @@ computed = (
     passes-second = refl;
   },
   refl,
+  record {
+    same = record { keys = refl; balances = Permᴰ·refl _; invocations = List·Permᴰ·swap refl refl };
+    first = refl;
+    second = refl;
+    rows-first = refl;
+    rows-second = refl;
+    passes-first = refl;
+    passes-second = refl;
+  },
 )
 
 -- the same evidence, and C is X in the one table and Y in the other
@@ -84,6 +108,10 @@ met-pair = computed .0
 -- the same evidence and the same rows, after 2 passes and after 3
 pub led-pair : Pair led led-reversed ((A, X, 0) ∷ (B, X, 1) ∷ (C, X, 1) ∷ []) ((A, X, 0) ∷ (B, X, 1) ∷ (C, X, 1) ∷ []) 2 3
 led-pair = computed .1
+
+-- the same evidence and the same marks, but another mint for D: doubt reaches C too, which no other mint is beside in the first table
+pub tied-pair : Pair tied tied-later ((A, X, 0) ∷ (B, Y, 0) ∷ (C, X, 2) ∷ (D, X, 2) ∷ []) ((A, X, 0) ∷ (B, Y, 0) ∷ (C, X, 2) ∷ (D, Y, 2) ∷ []) 2 2
+tied-pair = computed .3
 
 -- so the tables of the first pair differ in their bytes
 pub met-differs : route names met workedRoom .mints ≢ route names met-reversed workedRoom .mints

@@ -27,6 +27,20 @@ doubted =
     (calls 4 (0 ∷ 2 ∷ 1 ∷ []) (3 ∷ first) ∷ calls 4 (1 ∷ 2 ∷ 0 ∷ []) (3 ∷ first) ∷ calls 4 (0 ∷ 3 ∷ 1 ∷ []) (3 ∷ first) ∷ [])
     []
 
+-- accounts 0 and 1 are recorded so, and transfers run from the one over accounts 2 and 3 to the other
+abbrev pub between : View
+between =
+    saying (keysWith 4 (splToken ∷ [])) ((0, X) ∷ (1, Y) ∷ [])
+    (calls 4 (0 ∷ 2 ∷ 1 ∷ []) (3 ∷ first) ∷ calls 4 (2 ∷ 3 ∷ 1 ∷ []) (3 ∷ first) ∷ calls 4 (3 ∷ 1 ∷ 0 ∷ []) (3 ∷ first) ∷ [])
+    []
+
+-- they are recorded so, account 2 pays the one, and the one the other
+abbrev pub beyond : View
+beyond =
+    saying (keysWith 4 (splToken ∷ [])) ((0, X) ∷ (1, Y) ∷ [])
+    (calls 4 (2 ∷ 0 ∷ 1 ∷ []) (3 ∷ first) ∷ calls 4 (0 ∷ 1 ∷ 2 ∷ []) (3 ∷ first) ∷ [])
+    []
+
 -- table 1: outer at 0, inner after its flag at 4, height after its flag at 9, end at 14, bits at 18, leg at 19
 abbrev pub invoked : ℕ → List ℕ → List ℕ → ℕ → ℕ → ℕ → List ℕ
 invoked outer inner height end bits shownLeg =
@@ -95,6 +109,9 @@ unfoldable pub rowCases : List (View × Shown)
 rowCases =
     -- table 0: recorded, recorded, in doubt, filled in
     (doubted, mints-are (heldRow 0 X 0 ∷ heldRow 1 Y 0 ∷ heldRow 2 X 2 ∷ heldRow 3 X 1 ∷ []))
+    -- doubt travels the whole chain, and does not pass a recorded account
+    ∷ (between, mints-are (heldRow 0 X 0 ∷ heldRow 1 Y 0 ∷ heldRow 2 X 2 ∷ heldRow 3 X 2 ∷ []))
+    ∷ (beyond, mints-are (heldRow 0 X 0 ∷ heldRow 1 Y 0 ∷ heldRow 2 X 1 ∷ []))
     -- table 1: bits 1 + 2 + 8, 1 + 8 + 16, 4 + 8 + 32, none, 8 + 16; legs 1 and 2
     ∷ (
       nested,
