@@ -24,8 +24,8 @@ extern "C" {
 
 /* --------------------------------------------------------------- the version */
 
-#define MBELAGUY_VERSION "0.2.0"
-#define MBELAGUY_VERSION_NUMBER 512 /* 65536 * first + 256 * second + third */
+#define MBELAGUY_VERSION "0.3.0"
+#define MBELAGUY_VERSION_NUMBER 768 /* 65536 * first + 256 * second + third */
 
 /* MBELAGUY_VERSION_NUMBER of the library that is linked. */
 uint32_t mbelaguy_version(void);
@@ -221,9 +221,13 @@ mbelaguy_month_answer mbelaguy_month(
 
 #define MBELAGUY_MARK_RECORDED 0     /* a balance, a checked transfer or an initialisation names it */
 #define MBELAGUY_MARK_FILLED_IN 1    /* a plain transfer carried it here */
-#define MBELAGUY_MARK_IN_DOUBT 2     /* so too, but one joins the account to another final mint */
+#define MBELAGUY_MARK_IN_DOUBT 2     /* so too, but chains reach the account from two recorded mints */
 
 /*
+ * A chain runs along plain transfers, either way, from an account with one recorded mint through accounts
+ * with nothing recorded. The same evidence in another order gives the same accounts and marks, and the
+ * same mints but for those in doubt.
+ *
  * A mint in tables 2 and 3 is as sure as its account's mark in table 0: the source's, the input's, the
  * output's. A leg's mint whose account has no row in table 0 is the one that the swap itself names.
  */

@@ -7,13 +7,17 @@ use mbelaguy::{ids, route, route_into, Answer, Names, Refusal, Section, Table, T
 /// A records a mint; a plain transfer carries it to B.
 fn transfer() -> Pack {
     let keys = [[1; 32], [2; 32], ids::SPL_TOKEN].map(|key| KeyRow { whole: true, key });
-    let data = [&[3], &7u64.to_le_bytes()[..]].concat();
     Pack {
         keys: keys.to_vec(),
         balances: vec![Balance { account: 0, mint: [9; 32] }],
-        outer: vec![Instruction { program: 2, accounts: vec![0, 1, 0], data }],
+        outer: vec![plain(2, 0, 1)],
         ..Pack::default()
     }
+}
+
+fn plain(program: u32, from: u8, to: u8) -> Instruction {
+    let data = [&[3], &7u64.to_le_bytes()[..]].concat();
+    Instruction { program, accounts: vec![from, to, 0], data }
 }
 
 fn names() -> [u8; 88] {
@@ -31,6 +35,30 @@ fn a_plain_transfer_fills_in_a_mint() {
     let transfer = tables.transfers().next().unwrap();
     let mint = Mint::Marked { key: [9; 32], mark: Mark::Recorded };
     assert_eq!((transfer.amount, transfer.fee, transfer.mint), (7, Some(0), mint));
+}
+
+/// A and B record two mints; plain transfers lead from A over C and D to B.
+#[test]
+fn doubt_travels_the_whole_chain() {
+    let keys = [[1; 32], [2; 32], [3; 32], [4; 32], ids::SPL_TOKEN];
+    let mut pack = Pack {
+        keys: keys.map(|key| KeyRow { whole: true, key }).to_vec(),
+        balances: vec![
+            Balance { account: 0, mint: [8; 32] },
+            Balance { account: 1, mint: [9; 32] },
+        ],
+        outer: vec![plain(4, 0, 2), plain(4, 2, 3), plain(4, 3, 1)],
+        ..Pack::default()
+    };
+    for carried in [8, 9] {
+        let mut tables = Tables::full();
+        route(&names(), &pack.write().unwrap(), &mut tables).unwrap();
+        let mints: Vec<_> = tables.mints().map(|row| (row.mint, row.mark)).collect();
+        let recorded = [8, 9].map(|mint| ([mint; 32], Mark::Recorded));
+        let filled = [carried; 2].map(|mint| ([mint; 32], Mark::InDoubt));
+        assert_eq!(mints, [recorded, filled].concat());
+        pack.outer.reverse();
+    }
 }
 
 #[test]

@@ -50,10 +50,12 @@ fn shown(report: &Report, keys: Keys) -> String {
              <tbody>\n{mints}</tbody>\n</table>"
         ),
     );
+    let doubt = words::doubt(report).map(|note| format!("<p class=\"note\">{note}</p>\n"));
+    let doubt = doubt.unwrap_or_default();
     format!(
         "<p class=\"pack\">{}</p>\n<ul class=\"counts\">{counts}</ul>\n<main>\n\
          <section>\n<h2>Invocations</h2>\n{tree}\n</section>\n\
-         <section>\n<h2>Mints</h2>\n{mints}\n</section>\n{}</main>\n",
+         <section>\n<h2>Mints</h2>\n{mints}\n{doubt}</section>\n{}</main>\n",
         words::pack(report),
         page.keys_in_full()
     )

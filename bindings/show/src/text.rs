@@ -14,6 +14,7 @@ pub fn text(report: &Report, keys: Keys) -> String {
     let mut lines = vec![words::pack(report), words::counts(report).join(", ")];
     lines.extend([String::new(), "Mints".to_string()]);
     lines.extend(mints(report, &texts));
+    lines.extend(words::doubt(report).map(|note| format!("  {note}")));
     lines.extend([String::new(), "Invocations".to_string()]);
     lines.extend(tree(&report.nodes, &texts));
     lines.iter().map(|line| format!("{}\n", line.trim_end())).collect()

@@ -2,7 +2,7 @@
 //! keys as it likes.
 
 use crate::report::{Deed, Node, Program, Report};
-use mbelaguy::rows::{Action, Invocation, Lack, Leg, Mint, MintRow, Native, Transfer};
+use mbelaguy::rows::{Action, Invocation, Lack, Leg, Mark, Mint, MintRow, Native, Transfer};
 use mbelaguy::{ids, Key};
 
 /// A part of a phrase.
@@ -63,6 +63,16 @@ pub fn mints(report: &Report) -> Vec<(Key, Mint)> {
     let none = |account: &Key| (*account, Mint::Unknown(Lack::Contradictory));
     let rows = report.mints.iter().map(marked);
     rows.chain(report.contradicted.iter().map(none)).collect()
+}
+
+/// What it means that mints are in doubt, where some are: without them every tablet that has this
+/// evidence shows these mints.
+pub fn doubt(report: &Report) -> Option<&'static str> {
+    let some = report.mints.iter().any(|row| row.mark == Mark::InDoubt);
+    some.then_some(
+        "in doubt: transfers lead here from accounts with different recorded mints; \
+         the same evidence in another order may show another of them",
+    )
 }
 
 /// The program of an invocation.

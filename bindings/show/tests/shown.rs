@@ -66,11 +66,20 @@ Mints
   4vJ9..kLKi  8qbH..VfeR   filled in
   Memo        8qbH..VfeR   in doubt
   CktR..Ezy8  none         contradictory evidence
+  in doubt: transfers lead here from accounts with different recorded mints; the same evidence in another order may show another of them
 
 Invocations
   none
 ";
     assert_eq!(text(&marks(), Keys::Short), expected);
+}
+
+#[test]
+fn doubt_is_explained_where_there_is_some() {
+    let note = "<p class=\"note\">in doubt: ";
+    assert!(page("marks", &Ok(marks()), Keys::Short).contains(note));
+    assert!(!page("deeds", &Ok(deeds()), Keys::Short).contains(note));
+    assert!(!text(&deeds(), Keys::Short).contains("in doubt"));
 }
 
 /// One outer instruction with a transfer, a leg and a native action: from account 1, whose mint is filled

@@ -17,13 +17,20 @@ pub struct MintRow {
 }
 
 /// How sure a mint of table 0 is; 0 to 2 in a row.
+///
+/// A chain runs along plain transfers, followed either way, from an account with one recorded mint
+/// through accounts with nothing recorded.
+///
+/// Every tablet with the same evidence, in whatever order, shows the same accounts and marks, and the
+/// same mints but for those in doubt: where no row is in doubt, the same table.
 #[derive(Clone, Copy, Debug, PartialEq, Eq)]
 pub enum Mark {
     /// A balance, a checked transfer or an initialisation names it.
     Recorded,
-    /// A plain transfer carried it here from another account.
+    /// A plain transfer carried it here from another account, and chains bring no other mint.
     FilledIn,
-    /// Filled in, and a plain transfer joins the account to one with another final mint.
+    /// Filled in, and chains from two different recorded mints reach the account: another tablet with
+    /// the same evidence may show another of them.
     InDoubt,
 }
 
