@@ -30,6 +30,7 @@ pub fn packs() -> Vec<Timed> {
 fn limits() -> impl Iterator<Item = Timed> {
     let limits = [
         ("passes", passes()),
+        ("doubt", doubt()),
         ("groups", groups()),
         ("deep", one_outer(|k| k as u32 + 2)),
         ("flat", one_outer(|_| 2)),
@@ -60,18 +61,32 @@ fn bytes(count: usize) -> Pack {
     Pack { outer: vec![Instruction { data, ..Instruction::default() }], ..Pack::default() }
 }
 
-/// The most work for the passes, 256 of them over 1,024 plain transfers: each two neighbours in the
-/// line of all keys have four, which hand one mint along the line against its order.
+/// The most work for the passes: 256 of them, over a line of all keys.
 fn passes() -> Pack {
+    line(MAX_KEYS, 0)
+}
+
+/// The most work for passes and doubt together: the last key has another mint and is joined to the near
+/// end of the line of all others, too late to fill anything in. Doubt has as far to go as the mint.
+fn doubt() -> Pack {
+    let other = MAX_KEYS - 1;
+    let mut pack = line(other, other);
+    pack.balances.push(Balance { account: other as u32, mint: [8; 32] });
+    pack
+}
+
+/// 1,024 plain transfers along a line of so many keys: each two neighbours have four, which hand one
+/// mint along the line against its order; the rest come from another key to the second of the line.
+fn line(length: usize, other: usize) -> Pack {
     let mut keys: Vec<KeyRow> = (1..MAX_KEYS).map(|k| row(look_alike(k))).collect();
     keys.push(row(original::ids()[SPL_TOKEN]));
-    let transfer = |k: usize| Instruction {
+    let transfer = |from: usize, to: usize| Instruction {
         program: MAX_KEYS as u32 - 1,
-        accounts: vec![k as u8 - 1, k as u8, 0],
+        accounts: vec![from as u8, to as u8, 0],
         data: vec![3; 9],
     };
-    let mut outer: Vec<_> = (1..MAX_KEYS).rev().flat_map(|k| vec![transfer(k); 4]).collect();
-    outer.resize(MAX_INVOCATIONS, transfer(1));
+    let mut outer: Vec<_> = (1..length).rev().flat_map(|k| vec![transfer(k - 1, k); 4]).collect();
+    outer.resize(MAX_INVOCATIONS, transfer(other, 1));
     Pack { keys, balances: vec![Balance { account: 0, mint: [9; 32] }], outer, ..Pack::default() }
 }
 

@@ -26,6 +26,9 @@ pub const CASES: &[Example] = &[
     ("room counts ambiguous accounts", ambiguous_room),
     ("a pass sees what it has just added", passes_in_order),
     ("256 passes", most_passes),
+    ("doubt travels the whole chain", doubt_travels),
+    ("doubt does not pass a recorded account", doubt_stops_at_recorded),
+    ("doubt does not pass an ambiguous account", doubt_stops_at_ambiguous),
     ("a checked transfer without a row records", checked_without_row),
     ("a zero program is System only when resolved", zero_program),
 ];
@@ -56,6 +59,15 @@ fn instruction(program: u32, accounts: usize, data: Vec<u8>) -> Instruction {
 fn transfer(from: u8, to: u8, amount: u64) -> Instruction {
     let data = [&[3][..], &amount.to_le_bytes()].concat();
     Instruction { program: SPL_TOKEN, accounts: vec![from, to, 0], data }
+}
+
+/// Balances of accounts by number, with the key of that number as mint; then plain transfers.
+fn evidence(balances: &[(u8, u8)], transfers: &[(u8, u8)]) -> Pack {
+    let balance = |&(account, mint)| Balance { account: u32::from(account), mint: key(mint) };
+    Pack {
+        balances: balances.iter().map(balance).collect(),
+        ..pack(transfers.iter().map(|&(from, to)| transfer(from, to, 1)).collect())
+    }
 }
 
 /// The answer with the source's own names and the room of `routes`.
@@ -118,10 +130,8 @@ fn e() -> Outcome {
 }
 
 fn f() -> Outcome {
-    let balances = [(0, key(50)), (1, key(51))].map(|(account, mint)| Balance { account, mint });
     for (transfers, mint) in [([(0, 2), (1, 2)], key(50)), ([(1, 2), (0, 2)], key(51))] {
-        let outer = transfers.map(|(from, to)| transfer(from, to, 1)).to_vec();
-        let reply = reply(&Pack { balances: balances.to_vec(), ..pack(outer) })?;
+        let reply = reply(&evidence(&[(0, 50), (1, 51)], &transfers))?;
         same("mints", reply.answer.counts[0], 3)?;
         let row = &reply.tables[0][2 * WIDTHS[0]..3 * WIDTHS[0]];
         same("row of C", row, &[&key(2)[..], &mint, &[2]].concat()[..])?;
@@ -200,10 +210,8 @@ fn ambiguous_room() -> Outcome {
 }
 
 fn passes_in_order() -> Outcome {
-    let balances = vec![Balance { account: 0, mint: key(50) }];
     for (transfers, passes) in [([(0, 1), (1, 2)], 2), ([(1, 2), (0, 1)], 3)] {
-        let outer = transfers.map(|(from, to)| transfer(from, to, 1)).to_vec();
-        let reply = reply(&Pack { balances: balances.clone(), ..pack(outer) })?;
+        let reply = reply(&evidence(&[(0, 50)], &transfers))?;
         same("passes", reply.answer.passes, passes)?;
     }
     Ok(())
@@ -221,6 +229,35 @@ fn most_passes() -> Outcome {
     })?;
     same("passes", reply.answer.passes, 256)?;
     same("rows", reply.answer.counts, [256, 255, 255, 0, 0])
+}
+
+/// The marks of the accounts with a mint, by their numbers, in whatever order the transfers come.
+fn marks(balances: &[(u8, u8)], transfers: &[(u8, u8)], expected: &[u8]) -> Outcome {
+    let reversed: Vec<_> = transfers.iter().rev().copied().collect();
+    for transfers in [transfers, &reversed] {
+        let reply = reply(&evidence(balances, transfers))?;
+        let rows = reply.tables[0].chunks_exact(WIDTHS[0]).take(reply.answer.counts[0] as usize);
+        same("marks", rows.map(|row| row[64]).collect(), expected.to_vec())?;
+    }
+    Ok(())
+}
+
+fn doubt_travels() -> Outcome {
+    marks(&[(0, 50), (1, 51)], &[(0, 2), (2, 3), (3, 1)], &[0, 0, 2, 2])
+}
+
+/// Account 3 is joined to a recorded account alone, and that to another mint, or to an account in doubt.
+fn doubt_stops_at_recorded() -> Outcome {
+    let recorded = &[(0, 50), (1, 51)];
+    marks(recorded, &[(3, 0), (0, 1)], &[0, 0, 1])?;
+    marks(recorded, &[(3, 0), (0, 2), (2, 1)], &[0, 0, 2, 1])
+}
+
+/// Account 4 is ambiguous: it lies between account 3 and another mint, or an account in doubt.
+fn doubt_stops_at_ambiguous() -> Outcome {
+    let recorded = &[(0, 50), (1, 51), (4, 50), (4, 51)];
+    marks(recorded, &[(0, 3), (3, 4), (4, 1)], &[0, 0, 1])?;
+    marks(recorded, &[(0, 3), (3, 4), (4, 2), (0, 2), (2, 1)], &[0, 0, 2, 1])
 }
 
 fn checked_without_row() -> Outcome {

@@ -140,7 +140,7 @@ fn counted_tests(invocations: &[Invocation]) -> usize {
     tests
 }
 
-/// Final mints: by passes, and by the chains that reach an account.
+/// Final mints: by passes, and by the chains that reach an account; marks: by doubt that spreads.
 fn mints(mints: &Mints, last: &BTreeMap<Key, Key>) -> Outcome {
     same("final mints", last, &mints.expected)?;
     hold("at most 256 passes", mints.passes <= 256)?;
@@ -151,37 +151,37 @@ fn mints(mints: &Mints, last: &BTreeMap<Key, Key>) -> Outcome {
     for (account, mint) in &mints.recorded {
         same("a recorded mint stays", last.get(account), mint.as_ref())?;
     }
-    let starts = chain_starts(mints);
-    for (account, mints) in &starts {
-        let reached = last.get(account).is_some_and(|mint| mints.contains(mint));
-        hold("filled in exactly where a chain reaches", mints.is_empty() != reached)?;
+    for (account, starts) in &mints.reaching {
+        let reached = last.get(account).is_some_and(|mint| starts.contains(mint));
+        hold("filled in where a chain reaches", reached)?;
     }
-    let reached = starts.values().filter(|mints| !mints.is_empty()).count();
-    same("nothing else is filled in", last.len(), known + reached)
+    same("nothing else is filled in", last.len(), known + mints.reaching.len())?;
+    let in_doubt = spread(mints, last);
+    let mark = |account| match in_doubt.get(account) {
+        Some(_) => 2,
+        None => u8::from(!mints.recorded.contains_key(account)),
+    };
+    let marks = last.keys().map(|account| (*account, mark(account))).collect();
+    same("marks by doubt that spreads", &mints.marks, &marks)
 }
 
-/// For each account without record, the recorded mints that chains reach it from.
-pub fn chain_starts(mints: &Mints) -> BTreeMap<Key, BTreeSet<Key>> {
-    let mut joined: BTreeMap<Key, Vec<Key>> = BTreeMap::new();
-    for (a, b) in &mints.plain {
-        joined.entry(*a).or_default().push(*b);
-        joined.entry(*b).or_default().push(*a);
+/// The accounts in doubt by what is beside them, without chains, each with how many plain transfers
+/// away another final mint is: doubt arises in a filled-in account joined to another final mint, and
+/// spreads to the filled-in ones joined to it.
+pub fn spread(mints: &Mints, last: &BTreeMap<Key, Key>) -> BTreeMap<Key, usize> {
+    let filled = |a: &Key| last.contains_key(a) && !mints.recorded.contains_key(a);
+    let both_ways = mints.plain.iter().flat_map(|&(a, b)| [(a, b), (b, a)]);
+    let joined: BTreeSet<(Key, Key)> = both_ways.filter(|(a, _)| filled(a)).collect();
+    let beside = |found: &dyn Fn(&Key, &Key) -> bool| -> BTreeSet<Key> {
+        joined.iter().filter(|(a, b)| found(a, b)).map(|(a, _)| *a).collect()
+    };
+    let mut in_doubt = BTreeMap::new();
+    let mut found = beside(&|a, b| last.get(b).is_some_and(|mint| *mint != last[a]));
+    let mut away = 0;
+    while !found.is_empty() {
+        away += 1;
+        in_doubt.extend(found.iter().map(|account| (*account, away)));
+        found = beside(&|a, b| found.contains(b) && !in_doubt.contains_key(a));
     }
-    let mut starts: BTreeMap<Key, BTreeSet<Key>> = joined
-        .keys()
-        .filter(|account| !mints.recorded.contains_key(*account))
-        .map(|account| (*account, BTreeSet::new()))
-        .collect();
-    for (account, mint) in &mints.recorded {
-        let Some(mint) = mint else { continue };
-        let mut open = vec![*account];
-        while let Some(account) = open.pop() {
-            for next in joined.get(&account).into_iter().flatten() {
-                if starts.get_mut(next).is_some_and(|mints| mints.insert(*mint)) {
-                    open.push(*next);
-                }
-            }
-        }
-    }
-    starts
+    in_doubt
 }

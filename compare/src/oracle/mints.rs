@@ -3,7 +3,7 @@
 
 use mbelaguy::pack::Pack;
 use original::facts::{Facts, Invocation, Key};
-use std::collections::BTreeMap;
+use std::collections::{BTreeMap, BTreeSet};
 
 const ZERO: Key = [0; 32];
 
@@ -19,6 +19,8 @@ pub struct Mints {
     pub expected: BTreeMap<Key, Key>,
     /// Accounts recorded or filled in.
     pub room: usize,
+    /// For each account that chains reach, the recorded mints they start with.
+    pub reaching: BTreeMap<Key, BTreeSet<Key>>,
     /// The mark of every account that has a final mint.
     pub marks: BTreeMap<Key, u8>,
 }
@@ -47,8 +49,10 @@ impl Mints {
         let (passes, expected) = run_passes(&recorded, &plain);
         let filled = facts.mints.keys().filter(|account| !recorded.contains_key(*account)).count();
         let room = recorded.len() + filled;
-        let marks = marks(&recorded, &plain, &facts.mints);
-        Mints { recorded, plain, passes, expected, room, marks }
+        let reaching = reaching(&recorded, &plain);
+        let mark = |account: &Key| mark(account, &recorded, &reaching);
+        let marks = facts.mints.keys().map(|account| (*account, mark(account))).collect();
+        Mints { recorded, plain, passes, expected, room, reaching, marks }
     }
 }
 
@@ -116,25 +120,48 @@ fn run_passes(
     (passes, known.into_iter().filter_map(one).collect())
 }
 
-/// 0 recorded; 2 filled in and joined by a plain transfer to an account with another final mint; else 1.
-fn marks(
+/// The mints that chains bring to the accounts they reach. A chain runs along plain transfers, followed
+/// either way, from an account with one recorded mint through accounts with nothing recorded.
+fn reaching(
     recorded: &BTreeMap<Key, Option<Key>>,
     plain: &[(Key, Key)],
-    last: &BTreeMap<Key, Key>,
-) -> BTreeMap<Key, u8> {
-    let mark = |account: &Key| if recorded.contains_key(account) { 0 } else { 1 };
-    let mut marks: BTreeMap<_, _> = last.keys().map(|account| (*account, mark(account))).collect();
+) -> BTreeMap<Key, BTreeSet<Key>> {
+    let mut joined: BTreeMap<Key, Vec<Key>> = BTreeMap::new();
     for (source, destination) in plain {
-        let (Some(from), Some(to)) = (last.get(source), last.get(destination)) else {
-            continue;
-        };
-        if from != to {
-            for end in [source, destination] {
-                if !recorded.contains_key(end) {
-                    marks.insert(*end, 2);
+        joined.entry(*source).or_default().push(*destination);
+        joined.entry(*destination).or_default().push(*source);
+    }
+    let mut reaching: BTreeMap<Key, BTreeSet<Key>> = BTreeMap::new();
+    for (start, mint) in recorded {
+        let Some(mint) = mint else { continue };
+        let mut reached = BTreeSet::new();
+        let mut open = vec![*start];
+        while let Some(account) = open.pop() {
+            for next in joined.get(&account).into_iter().flatten() {
+                if !recorded.contains_key(next) && reached.insert(*next) {
+                    open.push(*next);
                 }
             }
         }
+        for account in reached {
+            reaching.entry(account).or_default().insert(*mint);
+        }
     }
-    marks
+    reaching
+}
+
+/// The mark of an account that has a mint: 0 recorded; 2 filled in, and chains reach it from two
+/// accounts with different recorded mints; 1 any other filled in.
+fn mark(
+    account: &Key,
+    recorded: &BTreeMap<Key, Option<Key>>,
+    reaching: &BTreeMap<Key, BTreeSet<Key>>,
+) -> u8 {
+    if recorded.contains_key(account) {
+        0
+    } else if reaching.get(account).is_some_and(|mints| mints.len() > 1) {
+        2
+    } else {
+        1
+    }
 }

@@ -98,6 +98,13 @@ const SINGLE: &[&str] = &[
     "mark 0",
     "mark 1",
     "mark 2",
+    "mark 2 with no other final mint beside it",
+    "mark 2 over four transfers from another mint",
+    "mark 2 over 20 transfers from another mint",
+    "mark 1 and another mint on two sides of a recorded account",
+    "mark 1 and another mint on two sides of an ambiguous account",
+    "marks 1 and 2 on two sides of a recorded account",
+    "marks 1 and 2 on two sides of an ambiguous account",
     "passes 0",
     "passes 1",
     "passes 2",
@@ -216,6 +223,7 @@ impl Coverage {
         self.note_names(case);
         self.note_pack(examined);
         self.note_mints(examined);
+        self.note_doubt(examined);
         self.note_trees(examined);
         for invocation in &examined.facts.invocations {
             self.note_token(invocation);

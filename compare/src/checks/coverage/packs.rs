@@ -1,6 +1,7 @@
 //! Features of names, packs, answers, mints and trees.
 
 use super::Coverage;
+use crate::checks::invariants;
 use crate::generate::names::{BASE_IN, BASE_OUT, BUY, REWARD, STANDARD};
 use crate::generate::Case;
 use crate::oracle::{Examined, Reply};
@@ -150,6 +151,32 @@ impl Coverage {
             })
         };
         self.note_if("chain over both token programs", joins(ids[0]) && joins(ids[1]));
+    }
+
+    /// How far doubt travels, and what stops it.
+    pub fn note_doubt(&mut self, examined: &Examined) {
+        let (mints, last) = (&examined.mints, &examined.facts.mints);
+        let away = invariants::spread(mints, last).into_values().max().unwrap_or(0);
+        self.note_if("mark 2 with no other final mint beside it", away > 1);
+        self.note_if("mark 2 over four transfers from another mint", away > 4);
+        self.note_if("mark 2 over 20 transfers from another mint", away > 20);
+        for (middle, mint) in &mints.recorded {
+            let kind = if mint.is_some() { "a recorded" } else { "an ambiguous" };
+            let sides = || {
+                let joined = mints.plain.iter().filter(|(a, b)| a == middle || b == middle);
+                let side = joined.map(|(a, b)| if a == middle { b } else { a });
+                side.filter_map(|side| Some((last.get(side)?, mints.marks.get(side)?)))
+            };
+            for (mint, _) in sides().filter(|(_, mark)| **mark == 1) {
+                let other = sides().any(|(one, _)| one != mint);
+                self.note_if(
+                    &format!("mark 1 and another mint on two sides of {kind} account"),
+                    other,
+                );
+                let doubt = sides().any(|(_, mark)| *mark == 2);
+                self.note_if(&format!("marks 1 and 2 on two sides of {kind} account"), doubt);
+            }
+        }
     }
 
     pub fn note_trees(&mut self, examined: &Examined) {
