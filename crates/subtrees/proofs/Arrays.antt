@@ -1,15 +1,14 @@
 -- The positions that arrays hold, and arrays filled from the last place backwards: lists with the same elements are the same.
 -- Assumes nothing.
-use mathlib.Core.Path.{_≡_, refl, sym, ap, _∙_}
-use mathlib.Core.Bool.{Bool, true, false}
+use mathlib.Core.Path.{_≡_, sym, ap, _∙_}
+use mathlib.Core.Bool.{Bool}
 use mathlib.Core.Logic.{_⊎_, inl, inr}
 use mathlib.Core.List.{List, _++_}
 use mathlib.Core.Option.{none}
 use Prim.Native.Nat.{ℕ, _+_, _-_, _≤_, _<_}
 use native.Mathlib.Nat.{zero-add, eq-or-lt-of-le}
 use native.Mathlib.Omega.{arith}
-use borrow.Author.Tests.{lt-ltb, le-ltb, ltb-true, ltb-false}
-use lib.Dec.{ltb}
+use borrow.Author.Tests.{lt-ltb, le-ltb}
 use lib.ListN.{length, getD, set, length-append, length-replicate, List·getD-append}
 use lib.Seq.{ext-getD, getD-append-add, getD-set-same, getD-set-other}
 use Rattle.wire.specs.Zeros.{zeros}
@@ -17,6 +16,7 @@ use Rattle.wire.proofs.Zeros.{zeros-at}
 use Rattle.wire.proofs.Tab.{tab-length, tab-at}
 use Rattle.pack.specs.Invocation.{Position, positionAt}
 use Rattle.subtrees.specs.Descendant.{descendant}
+use Rattle.subtrees.proofs.Ranges.{lt-or-ge}
 use Rattle.subtrees.proofs.Blocks.{after}
 use Rattle.wire.specs.Tab.{tab}
 use Rattle.subtrees.specs.Subtrees.{positionIn, within, endOf, insideOf, positions, taken, filled, Known}
@@ -56,13 +56,6 @@ known-more ps own ends inside i e b p q x y known m im mn = go (eq-or-lt-of-le i
     go (inr l) =
         let k = known m (omega arith) mn in
         (getD-set-other ends i m e 0 (omega arith) ∙ k .0, getD-set-other inside i m b 0 (omega arith) ∙ k .1)
-
-lt-or-ge : (m n : ℕ) → (m < n) ⊎ (n ≤ m)
-lt-or-ge m n = go (ltb m n) refl
-  where
-    go : (b : Bool) → ltb m n ≡ b → (m < n) ⊎ (n ≤ m)
-    go true e = inl (ltb-true m n e)
-    go false e = inr (ltb-false m n e)
 
 -- an array with f at its first n places and zeros after them
 pub are-filled : (f : ℕ → ℕ) (n : ℕ) (a : List ℕ) → n ≤ 1024 → length a ≡ 1024

@@ -18,7 +18,7 @@ module _ (n : ℕ) (holds : ℕ → ℕ → Bool) where
   tops i e = countIn (atop n holds i) (endAt n holds i - e) e
 
   -- the walk of i stands at e: no earlier member's block reaches past it
-  pub Stands : ℕ → ℕ → Type 0
+  unfoldable pub Stands : ℕ → ℕ → Type 0
   Stands i e = (y : ℕ) → i < y → y < e → endAt n holds y ≤ e
 
   pub stands-first : (i : ℕ) → Stands i (i + 1)

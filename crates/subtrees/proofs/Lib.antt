@@ -4,8 +4,12 @@ pub mod Ranges
 pub mod Count
 pub mod Bound
 pub mod Inside
+pub mod Lasts
+pub mod Parents
+pub mod Parenting
 pub mod Arrays
 pub mod Walk
 pub mod Filling
 pub mod Numbers
 pub mod Claims
+pub mod Cases

@@ -1,4 +1,4 @@
--- Laws of `anyIn` and `countIn`, by going through the numbers of the range.
+-- Laws of `anyIn` and `countIn`, by going through the numbers of the range, and the two sides of a number.
 -- Assumes nothing.
 use mathlib.Core.Path.{_≡_, refl, sym}
 use mathlib.Core.Bool.{Bool, true, false, _||_, or-true, or-assoc}
@@ -6,7 +6,17 @@ use mathlib.Core.Logic.{_⊎_, inl, inr}
 use Prim.Native.Nat.{ℕ, zero, suc, _+_, _≤_, _<_}
 use native.Mathlib.Nat.{add-zero, zero-add, add-suc, suc-add, eq-or-lt-of-le}
 use native.Mathlib.Omega.{arith}
+use borrow.Author.Tests.{ltb-true, ltb-false}
+use lib.Dec.{ltb}
 use Rattle.subtrees.specs.Blocks.{anyIn, countIn}
+
+-- a number lies before another, or not
+pub lt-or-ge : (m n : ℕ) → (m < n) ⊎ (n ≤ m)
+lt-or-ge m n = go (ltb m n) refl
+  where
+    go : (b : Bool) → ltb m n ≡ b → (m < n) ⊎ (n ≤ m)
+    go true e = inl (ltb-true m n e)
+    go false e = inr (ltb-false m n e)
 
 module _ (f : ℕ → Bool) where
   pub any-no : (m a : ℕ) → ((y : ℕ) → a ≤ y → y < a + m → f y ≡ false) → anyIn f m a ≡ false

@@ -1,3 +1,4 @@
 pub mod Descendant
 pub mod Blocks
+pub mod Parents
 pub mod Subtrees

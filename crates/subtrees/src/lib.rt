@@ -1,14 +1,15 @@
-// Subtrees: where the block of each invocation ends, which transfers and swaps lie inside it, and how many calls of `descendant` that takes.
+// Subtrees: where the block of each invocation ends, which transfers and swaps lie inside it, which invocation is its parent, and how many calls of
+// `descendant` that takes.
 //
-// The arrays are filled from the last invocation backwards; a block that is known is passed whole. For every content of the arrays the answers are
-// those of the definitions over the positions that the arrays hold, and the calls are at most 2n - 2.
+// The arrays are filled from the last invocation backwards. A block that is known is passed whole, and that once at most, by its parent. For every content of
+// the arrays the answers are those of the definitions over the positions that the arrays hold, and the calls are at most 2n - 2.
 ghost use mathlib.Core.Path.{_≡_};
 ghost use mathlib.Core.Bool.{cond, _||_};
 ghost use Prim.Native.Nat.{_+_, _≤_, _<_};
-ghost use lib.ListN.{getD};
+ghost use lib.ListN.{length, getD};
 ghost use Rattle.pack.specs.Invocation.{positionAt};
 ghost use Rattle.subtrees.specs.Descendant.{descendant};
-ghost use Rattle.subtrees.specs.Subtrees.{positionOf, positions, taken, odd, joined, Known, Stepped, Subtrees};
+ghost use Rattle.subtrees.specs.Subtrees.{positionOf, positions, taken, odd, joined, Known, Parented, Stepped, Subtrees};
 
 // What one step finds: the end of an invocation, the bits inside its block, and how often it called `descendant`.
 struct Subtree {
@@ -77,7 +78,7 @@ fn end_at(ends: &[u32; 1024], e: usize) -> usize
     ends[e] as usize
 }
 
-// One invocation, where those after it are known.
+// One invocation, where those after it are known. It is the parent of those whose blocks it jumps over.
 fn step(
     n: usize,
     outer: &[u32; 1024],
@@ -86,11 +87,14 @@ fn step(
     own: &[u8; 1024],
     ends: &[u32; 1024],
     inside: &[u8; 1024],
+    parents: &mut [u32; 1024],
     i: usize,
 ) -> Subtree
-    requires { ⌜ (i < n) × (n ≤ 1024) ⌝ }
+    requires { ⌜ (i < n) × (n ≤ 1024) × (length (now parents) ≡ 1024) ⌝ }
     requires { ⌜ Known (positions (now outer) (now inner) (now height) n) (now own) (now ends) (now inside) (i + 1) ⌝ }
-    ensures { λ r. ⌜ Stepped (positions (now (outer .entry)) (now (inner .entry)) (now (height .entry)) n) (now (own .entry)) i (r .end) (r .inside) (r .tests) ⌝ }
+    requires { ⌜ Parented (positions (now outer) (now inner) (now height) n) (now parents) (i + 1) ⌝ }
+    ensures { λ r. ⌜ Stepped (positions (now (outer .entry)) (now (inner .entry)) (now (height .entry)) n) (now (own .entry)) i
+        (r .end) (r .inside) (r .tests) (now (parents .exit)) ⌝ }
 {
     let mut e = i + 1;
     let mut bits: u8 = 0;
@@ -105,6 +109,7 @@ fn step(
             };
         }
         bits = joined(bits, joined(own[e], inside[e]));
+        parents[e] = (i + 1) as u32;
         e = end_at(ends, e);
     }
     Subtree {
@@ -123,17 +128,20 @@ fn fill(
     own: &[u8; 1024],
     ends: &mut [u32; 1024],
     inside: &mut [u8; 1024],
+    parents: &mut [u32; 1024],
 ) -> u32
     requires { ⌜ n ≤ 1024 ⌝ }
-    ensures { λ r. ⌜ Subtrees (positions (now (outer .entry)) (now (inner .entry)) (now (height .entry)) n) (now (own .entry)) r (now (ends .exit)) (now (inside .exit)) ⌝ }
+    ensures { λ r. ⌜ Subtrees (positions (now (outer .entry)) (now (inner .entry)) (now (height .entry)) n) (now (own .entry)) r
+        (now (ends .exit)) (now (inside .exit)) (now (parents .exit)) ⌝ }
 {
     *ends = [0u32; 1024];
     *inside = [0u8; 1024];
+    *parents = [0u32; 1024];
     let mut total: u32 = 0;
     let mut i = n;
     while 0 < i {
         i -= 1;
-        let s = step(n, outer, inner, height, own, ends, inside, i);
+        let s = step(n, outer, inner, height, own, ends, inside, parents, i);
         let e = s.end;
         let b = s.inside;
         let t = s.tests;
@@ -144,7 +152,7 @@ fn fill(
     total
 }
 
-// The ends, the inside bits and the tests of the first n invocations; of 1,024 where n is greater.
+// The ends, the inside bits, the parents and the tests of the first n invocations; of 1,024 where n is greater.
 pub fn subtrees(
     n: usize,
     outer: &[u32; 1024],
@@ -153,11 +161,13 @@ pub fn subtrees(
     own: &[u8; 1024],
     ends: &mut [u32; 1024],
     inside: &mut [u8; 1024],
+    parents: &mut [u32; 1024],
 ) -> u32
-    ensures { λ r. ⌜ Subtrees (positions (now (outer .entry)) (now (inner .entry)) (now (height .entry)) (taken n)) (now (own .entry)) r (now (ends .exit)) (now (inside .exit)) ⌝ }
+    ensures { λ r. ⌜ Subtrees (positions (now (outer .entry)) (now (inner .entry)) (now (height .entry)) (taken n)) (now (own .entry)) r
+        (now (ends .exit)) (now (inside .exit)) (now (parents .exit)) ⌝ }
 {
     if 1024 < n {
-        return fill(1024, outer, inner, height, own, ends, inside);
+        return fill(1024, outer, inner, height, own, ends, inside, parents);
     }
-    fill(n, outer, inner, height, own, ends, inside)
+    fill(n, outer, inner, height, own, ends, inside, parents)
 }
