@@ -18,7 +18,7 @@ use Rattle.wire.specs.Tab.{tab}
 use Rattle.subtrees.specs.Subtrees.{positionIn, positions, bits, insideOf, insidesOf, Subtrees}
 use Rattle.wire.proofs.Tab.{tab-length, tab-at, tab-same}
 use Rattle.subtrees.proofs.Arrays.{positions-length}
-use Rattle.subtrees.proofs.Claims.{end-at, inside-at, insides-same}
+use Rattle.subtrees.proofs.Claims.{end-at, inside-at, parent-at, insides-same}
 use Rattle.route.specs.Arrays.{itemAt, ownFor, ownAt, ownsOf, ownBits, bitsAt, rowAt}
 use Rattle.route.specs.Known.{present, rowIf, rowNumberAt}
 use Rattle.route.specs.Lay.{rowsOf}
@@ -58,7 +58,7 @@ inside-in : (ps : List Position) (own : List ℕ) (i : ℕ) → i < length ps �
 inside-in ps own i k = tab-at (insideOf ps own) 0 0 (length ps) i k ∙ rw zero-add
 
 -- the arrays that `put_own` and `subtrees` leave give the row of each invocation
-module _ (n tests : ℕ) (outer inner height programs moved leg own ends inside : List ℕ) (few : n ≤ 1024) (owns : own ≡ sets (zeros 1024) 0 (ownsOf moved leg n)) (blocks : Subtrees (positions outer inner height n) own tests ends inside) where
+module _ (n tests : ℕ) (outer inner height programs moved leg own ends inside parents : List ℕ) (few : n ≤ 1024) (owns : own ≡ sets (zeros 1024) 0 (ownsOf moved leg n)) (blocks : Subtrees (positions outer inner height n) own tests ends inside parents) where
   abbrev stood : List Position
   stood = positions outer inner height n
 
@@ -73,12 +73,12 @@ module _ (n tests : ℕ) (outer inner height programs moved leg own ends inside 
       ∙ sym (inside-in stood own i k)
       ∙ ap (λ (l : List ℕ). getD l i 0) (insides-same stood own (ownsOf moved leg (length stood)) (λ y h. owned y h))
 
-  pub row-by : (i : ℕ) → i < n → invocationRow (positionAt outer inner height i) (getD ends i 0) (bitsAt programs inside moved leg i) (getD leg i 0) ≡ rowAt stood programs moved leg i
+  pub row-by : (i : ℕ) → i < n → invocationRow (positionAt outer inner height i) (getD ends i 0) (bitsAt programs inside moved leg i) (getD leg i 0) (getD parents i 0) ≡ rowAt stood programs moved leg i
   unfolding rowAt bitsAt positionIn positions positionAt
   row-by i h =
       let k : i < length stood = omega (arith, positions-length outer inner height n) in
       let q : positionAt outer inner height i ≡ positionIn stood i = sym (tab-at (positionAt outer inner height) _ 0 n i h ∙ rw zero-add) in
-      rw (q, end-at blocks i k, insides i k)
+      rw (q, end-at blocks i k, insides i k, parent-at blocks i k)
 
 -- what the arrays hold, over the n instructions at the offsets of pack p; table is the rows of table 0
 pub record ArraysGathered (names ks p : List ℕ) (pools : List Key) (table : List MintRow) (n : ℕ) (at programs moved leg : List ℕ) : Type 0 where

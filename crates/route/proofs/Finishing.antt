@@ -51,7 +51,7 @@ inside-two ps own i =
     (someIn (length ps) (within ps) i (λ y. hasSwap (getD own y 0)))
 
 -- so the inside bits leave room for the others
-pub inside-le : {ps : List Position} {own ends inside : List ℕ} {tests : ℕ} → Subtrees ps own tests ends inside → (i : ℕ) → getD inside i 0 ≤ 3
+pub inside-le : {ps : List Position} {own ends inside parents : List ℕ} {tests : ℕ} → Subtrees ps own tests ends inside parents → (i : ℕ) → getD inside i 0 ≤ 3
 unfolding filled
 inside-le {ps} {own} s i = rw (s .inside-left) (tab-le (insideOf ps own) (inside-two ps own) 0 (length ps) (1024 - length (insidesOf ps own)) i)
 

@@ -36,14 +36,14 @@ flagged-length none = ap suc (leBytes-length 4 0)
 flagged-length (some x) = ap suc (leBytes-length 4 x)
 
 -- a row has the width of the table
-pub row-length : (p : Position) (end bits leg : ℕ) → length (invocationRow p end bits leg) ≡ invocationWidth
+pub row-length : (p : Position) (end bits leg parent : ℕ) → length (invocationRow p end bits leg parent) ≡ invocationWidth
 unfolding invocationRow
-row-length p end bits leg = simp (length-append, leBytes-length, flagged-length)
+row-length p end bits leg parent = simp (length-append, leBytes-length, flagged-length)
 
 -- the fields, each begun where the one before it ends, fill a row
-pub fields : (l : List ℕ) (p : Position) (end bits leg : ℕ) → length l ≡ invocationWidth → sets (set (sets (sets (sets (sets l 0 (leBytes 4 (p .outer))) 4 (flagged (p .inner))) 9 (flagged (p .height))) 14 (leBytes 4 end)) 18 bits) 19 (leBytes 4 leg) ≡ invocationRow p end bits leg
+pub fields : (l : List ℕ) (p : Position) (end bits leg parent : ℕ) → length l ≡ invocationWidth → sets (sets (set (sets (sets (sets (sets l 0 (leBytes 4 (p .outer))) 4 (flagged (p .inner))) 9 (flagged (p .height))) 14 (leBytes 4 end)) 18 bits) 19 (leBytes 4 leg)) 23 (leBytes 4 parent) ≡ invocationRow p end bits leg parent
 unfolding invocationRow
-fields l p end bits leg hl =
+fields l p end bits leg parent hl =
     let o = leBytes 4 (p .outer) in
     let i = flagged (p .inner) in
     let h = flagged (p .height) in
@@ -52,6 +52,7 @@ fields l p end bits leg hl =
     let hi : length (flagged (p .inner)) ≡ 5 = flagged-length (p .inner) in
     let hh : length (flagged (p .height)) ≡ 5 = flagged-length (p .height) in
     let he : length (leBytes 4 end) ≡ 4 = leBytes-length 4 end in
+    let hg : length (leBytes 4 leg) ≡ 4 = leBytes-length 4 leg in
     let told : set (sets l 0 (o ++ i ++ h ++ e)) 18 bits ≡ sets l 0 (o ++ i ++ h ++ e ++ (bits ∷ [])) = sets-next l 0 (o ++ i ++ h ++ e) (bits ∷ []) 18 (simp length-append (omega arith)) in
     rw (
       sets-next l 0 o i 4 (omega arith),
@@ -59,8 +60,9 @@ fields l p end bits leg hl =
       sets-next l 0 (o ++ i ++ h) e 14 (simp length-append (omega arith)),
       told,
       sets-next l 0 (o ++ i ++ h ++ e ++ (bits ∷ [])) (leBytes 4 leg) 19 (simp length-append (omega arith)),
+      sets-next l 0 (o ++ i ++ h ++ e ++ (bits ∷ []) ++ leBytes 4 leg) (leBytes 4 parent) 23 (simp length-append (omega arith)),
     )
-    (sets-whole l (invocationRow p end bits leg) (row-length p end bits leg ∙ sym hl))
+    (sets-whole l (invocationRow p end bits leg parent) (row-length p end bits leg parent ∙ sym hl))
 
 -- the bits of a program, and those of what an invocation has itself, leave room for two more
 pub programBits-le : (id : Id) → programBits id ≤ 12

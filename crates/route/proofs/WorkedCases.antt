@@ -14,7 +14,7 @@ use Rattle.route.specs.Row.{flagged}
 use Rattle.route.specs.MarkedCases.{key}
 use Rattle.route.specs.WorkedForm.{Shown, shown, due, row, first, second, names, workedRoom}
 use Rattle.route.specs.WorkedLegs.{forms, legCases}
-use Rattle.route.specs.WorkedCases.{rowCases, keyCases, worked}
+use Rattle.route.specs.WorkedCases.{rowCases, limitCases, worked}
 use Rattle.route.specs.Packing.{packOf, called, looked, ReadBack}
 use Rattle.route.proofs.Opened.{opened}
 
@@ -30,9 +30,9 @@ rows-right : map found rowCases ≡ map expected rowCases
 unfolding opened key row first second names workedRoom rowCases called packOf
 rows-right = refl
 
-keys-right : map found keyCases ≡ map expected keyCases
-unfolding opened key row first second names workedRoom keyCases called packOf
-keys-right = refl
+limits-right : map found limitCases ≡ map expected limitCases
+unfolding opened key row first second names workedRoom limitCases called packOf
+limits-right = refl
 
 legs-right : map found legCases ≡ map expected legCases
 unfolding opened key row first second names workedRoom forms legCases called packOf
@@ -45,9 +45,9 @@ joined a b x y = rw (map-append found a b, map-append expected a b, x, y)
 -- each case has its answer, and shows its bytes
 pub worked-cases : map found worked ≡ map expected worked
 unfolding worked
-worked-cases = joined (rowCases ++ keyCases) legCases (joined rowCases keyCases rows-right keys-right) legs-right
+worked-cases = joined (rowCases ++ limitCases) legCases (joined rowCases limitCases rows-right limits-right) legs-right
 
 -- and none of this comes of a garbled pack
-pub worked-packs : ReadBack rowCases × ReadBack keyCases × ReadBack legCases
-unfolding key first second names rowCases keyCases forms legCases packOf flatMap flagged tab ids le leBytes mark startOf hasSection sectionOf instructionAt rows itemEnd outersFrom heightAt innersEnd innersFrom groupEnd groupAt groupsFrom keysIn balancesIn outerIn groupsIn poolsIn viewOf
+pub worked-packs : ReadBack rowCases × ReadBack limitCases × ReadBack legCases
+unfolding key first second names rowCases limitCases forms legCases packOf flatMap flagged tab ids le leBytes mark startOf hasSection sectionOf instructionAt rows itemEnd outersFrom heightAt innersEnd innersFrom groupEnd groupAt groupsFrom keysIn balancesIn outerIn groupsIn poolsIn viewOf
 worked-packs = (refl, refl, refl)

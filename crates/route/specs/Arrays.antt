@@ -9,7 +9,7 @@ use lib.ListN.{length, getD}
 use Rattle.ids.specs.Which.{ofNumber}
 use Rattle.pack.specs.Invocation.{Instruction, Position, instructionAt}
 use Rattle.wire.specs.Tab.{tab}
-use Rattle.subtrees.specs.Subtrees.{positionIn, bits, endOf, insidesOf, testsOf}
+use Rattle.subtrees.specs.Subtrees.{positionIn, bits, endOf, insidesOf, parentOf, testsOf}
 use Rattle.route.specs.Lay.{placed}
 use Rattle.route.specs.Program.{programBits}
 use Rattle.route.specs.Row.{invocationWidth, invocationRow}
@@ -41,7 +41,7 @@ bitsAt programs inside moved leg i = getD inside i 0 + programBits (ofNumber (ge
 -- its row, where ps are the positions of the invocations
 unfoldable pub rowAt : List Position → List ℕ → List ℕ → List ℕ → ℕ → List ℕ
 rowAt ps programs moved leg i =
-    invocationRow (positionIn ps i) (endOf ps i) (bitsAt programs (insidesOf ps (ownsOf moved leg (length ps))) moved leg i) (getD leg i 0)
+    invocationRow (positionIn ps i) (endOf ps i) (bitsAt programs (insidesOf ps (ownsOf moved leg (length ps))) moved leg i) (getD leg i 0) (parentOf ps i)
 
 -- what is promised of table 1
 pub record FillsEach (ps : List Position) (programs moved leg : List ℕ) (r : ℕ) (before after : List ℕ) : Type 0 where

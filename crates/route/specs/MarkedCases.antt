@@ -27,8 +27,8 @@ use Rattle.route.specs.Order.{mintsLeft}
 pub data Outcome : Type 0 where
   -- in table 3: trader, input and output of each leg
   legs-are : List (Key × Key × Key) → Outcome
-  -- in table 1: the end of each invocation; then the tests
-  ends-are : List ℕ → ℕ → Outcome
+  -- in table 1: the end of each invocation, and its parent; then the tests
+  blocks-are : List ℕ → List ℕ → ℕ → Outcome
   -- in table 1: the position of each invocation
   order-is : List Position → Outcome
   -- in table 0: account, mint and mark of each row; then the passes
@@ -40,17 +40,22 @@ pub data Outcome : Type 0 where
 abbrev pub partiesRead : List ℕ → Key × Key × Key
 partiesRead x = (take 32 (drop 69 x), take 32 (drop 101 x), take 32 (drop 133 x))
 
--- an invocation's row: outer at 0, inner index at 4 and height at 9, each after its flag; end at 14
+-- an invocation's row: outer at 0, inner index at 4 and height at 9, each after its flag; end at 14, parent at 23
 abbrev pub positionRead : List ℕ → Position
 positionRead x = record { outer = le 4 x 0; inner = heightAt x 4; height = heightAt x 9 }
 
 abbrev pub endRead : List ℕ → ℕ
 endRead x = le 4 x 14
 
+abbrev pub parentRead : List ℕ → ℕ
+parentRead x = le 4 x 23
+
 -- the same looked at in what a call leaves
 abbrev pub seen : Routed → Outcome → Outcome
 seen r (legs-are l) = legs-are (map partiesRead (rows legWidth (r .answer .legs) (r .legs)))
-seen r (ends-are l n) = ends-are (map endRead (rows invocationWidth (r .answer .invocations) (r .invocations))) (r .answer .tests)
+seen r (blocks-are l m n) =
+    let found = rows invocationWidth (r .answer .invocations) (r .invocations) in
+    blocks-are (map endRead found) (map parentRead found) (r .answer .tests)
 seen r (order-is l) = order-is (map positionRead (rows invocationWidth (r .answer .invocations) (r .invocations)))
 seen r (mints-are l n) = mints-are (mintsLeft r) (r .answer .passes)
 seen r (transfers-are n) = transfers-are (r .answer .transfers)
@@ -147,10 +152,10 @@ cases =
     ∷ (one PumpSwap 18 sellData, no-leg)
     ∷ (one PumpSwap 20 sellData, no-leg)
     ∷ (one PumpSwap 21 sellData, oneLeg 1 5 6)
-    -- d: heights 2 and 3: ends 3, 3, 3 and two tests
-    ∷ (family (some 3), ends-are (3 ∷ 3 ∷ 3 ∷ []) 2)
-    -- e: the second height absent: the first inner ends before it, and one test more
-    ∷ (family none, ends-are (3 ∷ 2 ∷ 3 ∷ []) 3)
+    -- d: heights 2 and 3: ends 3, 3, 3, each in the block of the one before it, and two tests
+    ∷ (family (some 3), blocks-are (3 ∷ 3 ∷ 3 ∷ []) (0 ∷ 1 ∷ 2 ∷ []) 2)
+    -- e: the second height absent: the first inner ends before it, both are the outer one's, and one test more
+    ∷ (family none, blocks-are (3 ∷ 2 ∷ 3 ∷ []) (0 ∷ 1 ∷ 1 ∷ []) 3)
     -- f: A to C, then B to C: C is X, in doubt, after 2 passes; reversed, Y
     ∷ (meeting (pays 0 2 ∷ pays 1 2 ∷ []), mints-are ((A, X, 0) ∷ (B, Y, 0) ∷ (C, X, 2) ∷ []) 2)
     ∷ (meeting (pays 1 2 ∷ pays 0 2 ∷ []), mints-are ((A, X, 0) ∷ (B, Y, 0) ∷ (C, Y, 2) ∷ []) 2)

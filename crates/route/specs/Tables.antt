@@ -12,7 +12,7 @@ use Rattle.evidence.specs.MintTable.{MintRow, MintAnswer}
 use Rattle.mints.specs.Bytes.{mintRow}
 use Rattle.mints.specs.Inference.{inferred}
 use Rattle.wire.specs.Tab.{tab}
-use Rattle.subtrees.specs.Subtrees.{positionIn, bits, endOf, insideOf, testsOf}
+use Rattle.subtrees.specs.Subtrees.{positionIn, bits, endOf, insideOf, parentOf, testsOf}
 use Rattle.route.specs.Known.{present}
 use Rattle.route.specs.Lay.{rowsOf}
 use Rattle.route.specs.Program.{programOf, programBits}
@@ -52,7 +52,7 @@ module _ (names ks : List ℕ) (pools : List Key) (table : List MintRow) where
 
   -- row i of table 1: ps are the positions of the instructions xs
   unfoldable pub invocationAt : List Position → List Instruction → ℕ → List ℕ
-  invocationAt ps xs i = invocationRow (positionIn ps i) (endOf ps i) (insideOf ps (map ownOf xs) i + flagsOf (item xs i)) (legNumber xs i)
+  invocationAt ps xs i = invocationRow (positionIn ps i) (endOf ps i) (insideOf ps (map ownOf xs) i + flagsOf (item xs i)) (legNumber xs i) (parentOf ps i)
 
 -- all tables, once the mints are known
 unfoldable pub tablesWith : List ℕ → List ℕ → List Key → List Position → List Instruction → MintAnswer → Tables

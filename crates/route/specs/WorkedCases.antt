@@ -1,4 +1,4 @@
--- The worked cases, in one list: whole rows of each table, the programs that are passed over, the limit of keys, and the legs of WorkedLegs. A number of the
+-- The worked cases, in one list: whole rows of each table, the programs that are passed over, limits, and the legs of WorkedLegs. A number of the
 -- data has bytes that are all different, and every account its own key, so that exchanged places show.
 -- Assumes nothing.
 use Prim.Native.Nat.{ℕ}
@@ -12,7 +12,7 @@ use Rattle.ids.specs.declared.Id.{Id}
 use Rattle.ids.specs.declared.Id.the-variants.{PumpFun, LaunchLab, PumpSwap, Cpmm, AmmV4, Orca}
 use Rattle.pack.specs.View.{View}
 use Rattle.wire.specs.Tab.{tab}
-use Rattle.route.specs.MarkedCases.{key, keysWith, keysFor, calls, saying, family, X, Y}
+use Rattle.route.specs.MarkedCases.{key, keysWith, keysFor, calls, saying, bare, family, X, Y}
 use Rattle.route.specs.WorkedForm.{Shown, mints-are, invocations-are, transfers-are, legs-are, natives-are, bits-are, answers, row, first, second, standard, reward, swapBaseIn, splToken, token2022, wrappedSol}
 use Rattle.route.specs.WorkedLegs.{legCases, swapV2, sellExactIn, buyExactIn, buyV3, sellV3, buyV2, sellV2, sellBytes, workedLegRow, parties, mintPair, pairOfAccounts, exactIn, exactOut, exchanged, numbers, directed}
 
@@ -41,10 +41,10 @@ beyond =
     (calls 4 (2 ∷ 0 ∷ 1 ∷ []) (3 ∷ first) ∷ calls 4 (0 ∷ 1 ∷ 2 ∷ []) (3 ∷ first) ∷ [])
     []
 
--- table 1: outer at 0, inner after its flag at 4, height after its flag at 9, end at 14, bits at 18, leg at 19
-abbrev pub invoked : ℕ → List ℕ → List ℕ → ℕ → ℕ → ℕ → List ℕ
-invoked outer inner height end bits shownLeg =
-    row 23 ((0, outer ∷ []) ∷ (4, inner) ∷ (9, height) ∷ (14, end ∷ []) ∷ (18, bits ∷ []) ∷ (19, shownLeg ∷ []) ∷ [])
+-- table 1: outer at 0, inner after its flag at 4, height after its flag at 9, end at 14, bits at 18, leg at 19, parent at 23
+abbrev pub invoked : ℕ → List ℕ → List ℕ → ℕ → ℕ → ℕ → ℕ → List ℕ
+invoked outer inner height end bits shownLeg parent =
+    row 27 ((0, outer ∷ []) ∷ (4, inner) ∷ (9, height) ∷ (14, end ∷ []) ∷ (18, bits ∷ []) ∷ (19, shownLeg ∷ []) ∷ (23, parent ∷ []) ∷ [])
 
 -- an unknown program calls AMM V4, which calls SPL Token at a height of four bytes; a program that no key has; AMM V4 again
 abbrev pub nested : View
@@ -101,9 +101,12 @@ wrapping =
     (calls 7 (0 ∷ []) (17 ∷ []) ∷ calls 6 (0 ∷ 1 ∷ []) (2 ∷ 0 ∷ 0 ∷ 0 ∷ first) ∷ calls 7 (2 ∷ []) (17 ∷ []) ∷ calls 8 (3 ∷ 4 ∷ 5 ∷ []) (9 ∷ []) ∷ [])
     []
 
--- keys, and nothing else
+-- keys, and nothing else; outer instructions, and nothing else
 abbrev pub keyed : ℕ → View
 keyed n = saying (replicate n (1, zeros 32)) [] [] []
+
+abbrev pub outers : ℕ → View
+outers n = saying [] [] (replicate n bare) []
 
 unfoldable pub rowCases : List (View × Shown)
 rowCases =
@@ -112,24 +115,24 @@ rowCases =
     -- doubt travels the whole chain, and does not pass a recorded account
     ∷ (between, mints-are (heldRow 0 X 0 ∷ heldRow 1 Y 0 ∷ heldRow 2 X 2 ∷ heldRow 3 X 2 ∷ []))
     ∷ (beyond, mints-are (heldRow 0 X 0 ∷ heldRow 1 Y 0 ∷ heldRow 2 X 1 ∷ []))
-    -- table 1: bits 1 + 2 + 8, 1 + 8 + 16, 4 + 8 + 32, none, 8 + 16; legs 1 and 2
+    -- table 1: bits 1 + 2 + 8, 1 + 8 + 16, 4 + 8 + 32, none, 8 + 16; legs 1 and 2; a chain of parents, and the next two outers have none
     ∷ (
       nested,
       invocations-are
-          (invoked 0 [] (1 ∷ 1 ∷ []) 3 11 0
-          ∷ invoked 0 (1 ∷ 0 ∷ []) (1 ∷ 2 ∷ []) 3 25 1
-          ∷ invoked 0 (1 ∷ 1 ∷ []) (1 ∷ 1 ∷ 2 ∷ 3 ∷ 4 ∷ []) 3 44 0
-          ∷ invoked 1 [] (1 ∷ 1 ∷ []) 4 0 0
-          ∷ invoked 2 [] (1 ∷ 1 ∷ []) 5 24 2
+          (invoked 0 [] (1 ∷ 1 ∷ []) 3 11 0 0
+          ∷ invoked 0 (1 ∷ 0 ∷ []) (1 ∷ 2 ∷ []) 3 25 1 1
+          ∷ invoked 0 (1 ∷ 1 ∷ []) (1 ∷ 1 ∷ 2 ∷ 3 ∷ 4 ∷ []) 3 44 0 2
+          ∷ invoked 1 [] (1 ∷ 1 ∷ []) 4 0 0 0
+          ∷ invoked 2 [] (1 ∷ 1 ∷ []) 5 24 2 0
           ∷ []),
     )
-    -- equal heights are no descent: the first inner one's block is empty
+    -- equal heights are no descent: the first inner one's block is empty, and both have the outer one as parent
     ∷ (
       family (some 2),
       invocations-are
-          (invoked 0 [] (1 ∷ 1 ∷ []) 3 0 0
-          ∷ invoked 0 (1 ∷ 0 ∷ []) (1 ∷ 2 ∷ []) 2 0 0
-          ∷ invoked 0 (1 ∷ 1 ∷ []) (1 ∷ 2 ∷ []) 3 0 0
+          (invoked 0 [] (1 ∷ 1 ∷ []) 3 0 0 0
+          ∷ invoked 0 (1 ∷ 0 ∷ []) (1 ∷ 2 ∷ []) 2 0 0 1
+          ∷ invoked 0 (1 ∷ 1 ∷ []) (1 ∷ 2 ∷ []) 3 0 0 1
           ∷ []),
     )
     -- passed over are the token programs, Compute Budget, Associated Token, Memo and System, and not wrapped SOL, the eight protocols and another key;
@@ -183,9 +186,9 @@ rowCases =
     )
     ∷ []
 
--- 256 keys are taken, 257 refused
-unfoldable pub keyCases : List (View × Shown)
-keyCases = (keyed 256, answers 0 0) ∷ (keyed 257, answers 5 0) ∷ []
+-- 256 keys are taken, 257 refused; 19 invocations have room in table 1, 20 have not
+unfoldable pub limitCases : List (View × Shown)
+limitCases = (keyed 256, answers 0 0) ∷ (keyed 257, answers 5 0) ∷ (outers 19, answers 0 0) ∷ (outers 20, answers 8 1) ∷ []
 
 unfoldable pub worked : List (View × Shown)
-worked = rowCases ++ keyCases ++ legCases
+worked = rowCases ++ limitCases ++ legCases

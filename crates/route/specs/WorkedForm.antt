@@ -24,11 +24,11 @@ pub data Shown : Type 0 where
 -- the same looked at in what a call leaves
 abbrev pub shown : Routed → Shown → Shown
 shown r (mints-are l) = mints-are (rows 65 (r .answer .mints) (r .mints))
-shown r (invocations-are l) = invocations-are (rows 23 (r .answer .invocations) (r .invocations))
+shown r (invocations-are l) = invocations-are (rows 27 (r .answer .invocations) (r .invocations))
 shown r (transfers-are l) = transfers-are (rows 150 (r .answer .transfers) (r .transfers))
 shown r (legs-are l) = legs-are (rows 250 (r .answer .legs) (r .legs))
 shown r (natives-are l) = natives-are (rows 109 (r .answer .natives) (r .natives))
-shown r (bits-are l) = bits-are (map (λ (x : List ℕ). getD x 18 0) (rows 23 (r .answer .invocations) (r .invocations)))
+shown r (bits-are l) = bits-are (map (λ (x : List ℕ). getD x 18 0) (rows 27 (r .answer .invocations) (r .invocations)))
 shown r (answers n k) = answers (r .answer .number) (r .answer .place)
 
 -- the number that the answer then has
@@ -74,9 +74,9 @@ buy = 102 ∷ 6 ∷ 61 ∷ 18 ∷ 1 ∷ 218 ∷ 235 ∷ 234 ∷ []
 unfoldable pub names : List ℕ
 names = swapBaseIn ++ swapBaseOut ++ buy ++ standard ++ reward
 
--- tables with room for every case
+-- tables with room for the rows of every case: in table 1 for 19
 unfoldable pub workedRoom : Lent
-workedRoom = record { mints = 520; invocations = 460; transfers = 750; legs = 500; natives = 327 }
+workedRoom = record { mints = 520; invocations = 513; transfers = 750; legs = 500; natives = 327 }
 
 -- rows of the table of ids
 abbrev pub splToken : Key

@@ -11,7 +11,7 @@ ghost use Rattle.route.specs.Program.{programBits};
 ghost use Rattle.route.specs.Row.{flagged as flaggedOf, invocationRow};
 
 // The bytes of a row.
-pub(crate) const WIDTH: usize = 23;
+pub(crate) const WIDTH: usize = 27;
 
 // The bits that a program's case gives: 4 where a route passes over it, 8 where it is resolved.
 fn program_bits(id: Id) -> u8
@@ -62,8 +62,9 @@ fn put_row(
     end: u32,
     bits: u8,
     leg: u32,
+    parent: u32,
 )
-    ensures { λ _. ⌜ now (out .exit) ≡ sets (now (out .entry)) at (invocationRow (positionOf outer inner height) end bits leg) ⌝ }
+    ensures { λ _. ⌜ now (out .exit) ≡ sets (now (out .entry)) at (invocationRow (positionOf outer inner height) end bits leg parent) ⌝ }
 {
     let mut row = [0u8; WIDTH];
     wire::put_u32(&mut row, 0, outer);
@@ -72,6 +73,7 @@ fn put_row(
     wire::put_u32(&mut row, 14, end);
     wire::put_byte(&mut row, 18, bits);
     wire::put_u32(&mut row, 19, leg);
+    wire::put_u32(&mut row, 23, parent);
     wire::put(out, at, &row);
 }
 
@@ -159,7 +161,17 @@ pub(crate) fn put_rows(
     put_own(n, moved, leg, &mut own);
     let mut ends = [0u32; 1024];
     let mut inside = [0u8; 1024];
-    let tests = subtrees::subtrees(n, outer, inner, height, &own, &mut ends, &mut inside);
+    let mut parents = [0u32; 1024];
+    let tests = subtrees::subtrees(
+        n,
+        outer,
+        inner,
+        height,
+        &own,
+        &mut ends,
+        &mut inside,
+        &mut parents,
+    );
     let mut i = 0;
     while i < n {
         let b = bits(programs, &inside, moved, leg, i);
@@ -172,6 +184,7 @@ pub(crate) fn put_rows(
             ends[i],
             b,
             leg[i],
+            parents[i],
         );
         i += 1;
     }

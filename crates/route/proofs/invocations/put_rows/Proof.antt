@@ -24,11 +24,11 @@ use Rattle.route.proofs.invocations.put_row.Reads as put-row-reads
 use Rattle.subtrees.proofs.subtrees.Reads as subtrees-reads
 
 abbrev Inv-loop : tie.InvT-loop
-Inv-loop n outer inner height programs moved leg out₀ ends inside tests i₀ out i =
+Inv-loop n outer inner height programs moved leg out₀ ends inside parents tests i₀ out i =
     (i ≤ n) × (length out ≡ length out₀) × (out ≡ placed invocationWidth 0 (tab (rowAt (positions outer inner height n) programs moved leg) 0 i) out₀)
 
 abbrev μ-loop : tie.MeasureT-loop
-μ-loop n outer inner height programs moved leg out₀ ends inside tests i₀ out i = n - i
+μ-loop n outer inner height programs moved leg out₀ ends inside parents tests i₀ out i = n - i
 
 put-own-requires : tie.Need-put-own-requires Inv-loop μ-loop
 put-own-requires c κs = c .before .before .pre
@@ -76,6 +76,12 @@ mul-put-row-6 c = omega arith
 element-copy-out-put-row-4 : tie.Need-element-copy-out-put-row-4 Inv-loop μ-loop
 element-copy-out-put-row-4 c = omega arith
 
+mul-put-row-7 : tie.Need-mul-put-row-7 Inv-loop μ-loop
+mul-put-row-7 c = omega arith
+
+array-read-put-row-2 : tie.Need-array-read-put-row-2 Inv-loop μ-loop
+array-read-put-row-2 c = omega arith
+
 put-row-requires : tie.Need-put-row-requires Inv-loop μ-loop
 put-row-requires c κs = tt
 
@@ -86,14 +92,14 @@ loop-less : tie.Need-loop-less Inv-loop μ-loop
 loop-less c = omega arith
 
 -- no more than 1,024 invocations are all looked at
-blocked : {own ends inside : List ℕ} {tests : ℕ} (outer inner height : List ℕ) (n : ℕ) → n ≤ 1024 → Subtrees (positions outer inner height (taken n)) own tests ends inside → Subtrees (positions outer inner height n) own tests ends inside
+blocked : {own ends inside parents : List ℕ} {tests : ℕ} (outer inner height : List ℕ) (n : ℕ) → n ≤ 1024 → Subtrees (positions outer inner height (taken n)) own tests ends inside parents → Subtrees (positions outer inner height n) own tests ends inside parents
 blocked outer inner height n few s = rw (taken-all n few) at s
 
 loop-again : tie.Need-loop-again Inv-loop μ-loop
 unfolding positionAt
 loop-again c =
     let l = c .before .before .before .before .before .before .before .before .before .before .before .loop in
-    let start = c .before .before .before .before .before .before .before .before .before .before .before .before .before .before .before .before .before .before .before in
+    let start = c .before .before .before .before .before .before .before .before .before .before .before .before .before .before .before .before .before .before .before .before in
     let a = start .args in
     let ps = positions (a .outer .now) (a .inner .now) (a .height .now) (a .n) in
     let blocks = blocked (a .outer .now) (a .inner .now) (a .height .now) (a .n) (start .pre) (c .before .before .before .before .before .before .before .before .before .before .before .before .subtrees .ensures) in
@@ -101,7 +107,7 @@ loop-again c =
       omega arith,
       put .kept .0 ∙ l .inv .1,
       placed-more invocationWidth (rowAt ps (a .programs .now) (a .moved .now) (a .leg .now)) (l .i) (a .out .now) (l .out) _ (l .inv .2)
-          (put .ensures ∙ rw (c .before .before .before .before .before .before .before .before .bits .ensures, ← (row-by (a .n) _ (a .outer .now) (a .inner .now) (a .height .now) (a .programs .now) (a .moved .now) (a .leg .now) _ _ _ (start .pre) (c .before .before .before .before .before .before .before .before .before .before .before .before .before .before .before .before .put-own .ensures) blocks (l .i) (omega arith)))),
+          (put .ensures ∙ rw (c .before .before .before .before .before .before .before .before .bits .ensures, ← (row-by (a .n) _ (a .outer .now) (a .inner .now) (a .height .now) (a .programs .now) (a .moved .now) (a .leg .now) _ _ _ _ (start .pre) (c .before .before .before .before .before .before .before .before .before .before .before .before .before .before .before .before .before .put-own .ensures) blocks (l .i) (omega arith)))),
     )
 
 same-length : tie.Need-same-length Inv-loop μ-loop
@@ -110,7 +116,7 @@ same-length c = c .before .loop .inv .1
 returns : tie.Need-returns Inv-loop μ-loop
 returns c =
     let l = c .before .loop in
-    let start = c .before .before .before .before .before .before .before .before .before in
+    let start = c .before .before .before .before .before .before .before .before .before .before in
     let a = start .args in
     let e : l .i ≡ length (positions (a .outer .now) (a .inner .now) (a .height .now) (a .n)) = omega (arith, positions-length (a .outer .now) (a .inner .now) (a .height .now) (a .n)) in
     record { tests = blocked (a .outer .now) (a .inner .now) (a .height .now) (a .n) (start .pre) (c .before .before .subtrees .ensures) .tests; rows = l .inv .2 ∙ rw e }
@@ -136,6 +142,8 @@ put-rows-spec =
     array-read-put-row
     mul-put-row-6
     element-copy-out-put-row-4
+    mul-put-row-7
+    array-read-put-row-2
     put-row-requires
     add-i
     loop-less
