@@ -6,7 +6,9 @@ use Prim.Native.Nat.{ℕ, _+_, _≤_}
 use native.Mathlib.Omega.{arith}
 use lib.ListN.{length-append}
 use Rattle.wire.proofs.Sets.{sets-next}
+use Rattle.listing.specs.Listing.{spaced}
 use Rattle.listing.specs.Puts.{PutsText}
+use Rattle.listing.proofs.Decimal.{decimal-few}
 
 -- nothing is put
 pub puts-none : (out : List ℕ) (at : ℕ) → PutsText 0 out at [] out at
@@ -20,6 +22,11 @@ puts-next {m} {k} {at} {next} {last} {out} {mid} {end} {a} {b} p q =
       behind = simp length-append (omega (arith, p .behind, q .behind));
       within = omega (arith, p .within, q .within);
     }
+
+-- a number that is a byte has at most three digits
+pub puts-byte : {m at next x : ℕ} {out end : List ℕ} → x ≤ 255 → PutsText m out at (spaced x) end next → PutsText 4 out at (spaced x) end next
+unfolding spaced
+puts-byte {x = x} h p = record { left = p .left; behind = p .behind; within = omega (arith, p .behind, decimal-few 2 x (omega arith)) }
 
 -- a wider bound
 pub puts-wider : {m at next : ℕ} {out text end : List ℕ} (k : ℕ) → m ≤ k → PutsText m out at text end next → PutsText k out at text end next

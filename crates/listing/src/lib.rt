@@ -88,7 +88,7 @@ fn head(out: &mut [u8], a: Answer) -> usize
 
 // A number of a row behind its flag, with a space in front: a dash where the flag is 0.
 fn optional(out: &mut [u8], at: usize, row: &[u8], flag: usize) -> usize
-    requires { ⌜ at ≤ 60000 ⌝ }
+    requires { ⌜ at ≤ 60600 ⌝ }
     requires { ⌜ flag ≤ 9 ⌝ }
     ensures { λ r. ⌜ PutsText 11 (now (out .entry)) at (Listing·optional (now (row .entry)) flag) (now (out .exit)) r ⌝ }
 {
@@ -100,7 +100,7 @@ fn optional(out: &mut [u8], at: usize, row: &[u8], flag: usize) -> usize
 
 // Where an invocation stands: outer, inner, height.
 fn position(out: &mut [u8], from: usize, row: &[u8]) -> usize
-    requires { ⌜ from ≤ 59900 ⌝ }
+    requires { ⌜ from ≤ 60500 ⌝ }
     ensures { λ r. ⌜ PutsText 32 (now (out .entry)) from (Listing·position (now (row .entry))) (now (out .exit)) r ⌝ }
 {
     let mut at = number(out, from, wire::u32_at(row, 0));
@@ -108,14 +108,15 @@ fn position(out: &mut [u8], from: usize, row: &[u8]) -> usize
     optional(out, at, row, 9)
 }
 
-// An invocation: where it stands, its end, its bits.
+// An invocation: where it stands, its end, its bits, its parent.
 fn line(out: &mut [u8], from: usize, row: &[u8]) -> usize
-    requires { ⌜ from ≤ 59900 ⌝ }
-    ensures { λ r. ⌜ PutsText 55 (now (out .entry)) from (Listing·line (now (row .entry))) (now (out .exit)) r ⌝ }
+    requires { ⌜ from ≤ 60500 ⌝ }
+    ensures { λ r. ⌜ PutsText 59 (now (out .entry)) from (Listing·line (now (row .entry))) (now (out .exit)) r ⌝ }
 {
     let mut at = position(out, from, row);
     at = field(out, at, wire::u32_at(row, 14));
     at = field(out, at, wire::byte(row, 18) as u32);
+    at = field(out, at, wire::u32_at(row, 23));
     word(out, at, b"\n")
 }
 
@@ -124,7 +125,7 @@ fn lines(out: &mut [u8], from: usize, rows: &[u8], n: usize) -> usize
     requires { ⌜ from ≤ 93 ⌝ }
     requires { ⌜ n ≤ 1024 ⌝ }
     requires { ⌜ n * invocationWidth ≤ length (now rows) ⌝ }
-    ensures { λ r. ⌜ PutsText 56320 (now (out .entry)) from (linesFrom (now (rows .entry)) n 0) (now (out .exit)) r ⌝ }
+    ensures { λ r. ⌜ PutsText 60416 (now (out .entry)) from (linesFrom (now (rows .entry)) n 0) (now (out .exit)) r ⌝ }
 {
     let mut at = from;
     let mut i = 0;

@@ -1,7 +1,8 @@
--- Where it stands, its end and its bits are put, each behind the one before.
+-- Where it stands, its end, its bits and its parent are put, each behind the one before; the bits are a byte, so a line is at most 59 bytes long.
 -- Assumes nothing.
-use Rattle.listing.proofs.Putting.{puts-next}
+use Rattle.listing.proofs.Putting.{puts-next, puts-byte}
 use Rattle.listing.specs.Listing.{line}
+use native.Mathlib.Omega.{arith}
 use borrow.Author.Needs.{needs}
 use Rattle.listing.proofs.line.Statement.{statement}
 use Rattle.listing.proofs.line.Tie as tie
@@ -24,6 +25,12 @@ cast-field c = search needs
 field-requires-2 : tie.Need-field-requires-2
 field-requires-2 c κs = search needs
 
+u32-at-requires-2 : tie.Need-u32-at-requires-2
+u32-at-requires-2 c κs = search needs
+
+field-requires-3 : tie.Need-field-requires-3
+field-requires-3 c κs = search needs
+
 slice-aggregate-word : tie.Need-slice-aggregate-word
 slice-aggregate-word c = search needs
 
@@ -37,11 +44,12 @@ returns : tie.Need-returns
 unfolding line
 returns c =
     let w = c .before .before in
-    let b = w .before .before .before .before .before in
+    let q = w .before .before .before .before .before in
+    let b = q .before .before .before .before .before in
     let e = b .before .before .before .before .before in
     let p = e .before .before .before .before .before in
-    rw (← e .before .u32-at .ensures, ← b .before .byte .ensures)
-    (puts-next (puts-next (puts-next (p .position .ensures) (e .field .ensures)) (b .field2 .ensures)) (w .word .ensures))
+    rw (← e .before .u32-at .ensures, ← b .before .byte .ensures, ← q .before .u32-at2 .ensures)
+    (puts-next (puts-next (puts-next (puts-next (p .position .ensures) (e .field .ensures)) (puts-byte (omega arith) (b .field2 .ensures))) (q .field3 .ensures)) (w .word .ensures))
 
 pub line-spec : {M : Type 1} → statement M
 line-spec =
@@ -53,6 +61,8 @@ line-spec =
     byte-requires
     cast-field
     field-requires-2
+    u32-at-requires-2
+    field-requires-3
     slice-aggregate-word
     word-requires
     same-length
