@@ -238,14 +238,24 @@ static void print_mint(const uint8_t *row)
            short_key(row + MBELAGUY_MINT_MINT), marks[row[MBELAGUY_MINT_MARK]]);
 }
 
+/* How many invocations one lies below, from parent to parent. */
+static int depth(const uint8_t *row)
+{
+    int count = 0;
+    for (uint64_t parent; (parent = number(row + MBELAGUY_INVOCATION_PARENT, 4)) != 0; count++)
+        row = invocations + (parent - 1) * MBELAGUY_INVOCATION_ROW;
+    return count;
+}
+
 static void print_invocation(const uint8_t *row)
 {
-    uint64_t leg = number(row + MBELAGUY_INVOCATION_LEG, 4);
-    printf("invocation: outer %" PRIu64, number(row + MBELAGUY_INVOCATION_OUTER, 4));
+    uint64_t leg = number(row + MBELAGUY_INVOCATION_LEG, 4), parent = number(row + MBELAGUY_INVOCATION_PARENT, 4);
+    printf("%*sinvocation: outer %" PRIu64, 2 * depth(row), "", number(row + MBELAGUY_INVOCATION_OUTER, 4));
     print_optional("inner", row[MBELAGUY_INVOCATION_INNER_FLAG], number(row + MBELAGUY_INVOCATION_INNER, 4));
     print_optional("height", row[MBELAGUY_INVOCATION_HEIGHT_FLAG], number(row + MBELAGUY_INVOCATION_HEIGHT, 4));
     printf(" end %" PRIu64 " bits %d", number(row + MBELAGUY_INVOCATION_END, 4), row[MBELAGUY_INVOCATION_BITS]);
     print_optional("leg", leg != 0, leg - 1);
+    print_optional("parent", parent != 0, parent - 1);
     printf("\n");
 }
 

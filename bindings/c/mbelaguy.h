@@ -24,8 +24,8 @@ extern "C" {
 
 /* --------------------------------------------------------------- the version */
 
-#define MBELAGUY_VERSION "0.3.0"
-#define MBELAGUY_VERSION_NUMBER 768 /* 65536 * first + 256 * second + third */
+#define MBELAGUY_VERSION "0.4.0"
+#define MBELAGUY_VERSION_NUMBER 1024 /* 65536 * first + 256 * second + third */
 
 /* MBELAGUY_VERSION_NUMBER of the library that is linked. */
 uint32_t mbelaguy_version(void);
@@ -233,7 +233,7 @@ mbelaguy_month_answer mbelaguy_month(
  */
 
 /* Table 1, in execution order. The tables from here on never need more than MBELAGUY_MAX_INVOCATIONS. */
-#define MBELAGUY_INVOCATION_ROW 23
+#define MBELAGUY_INVOCATION_ROW 27
 #define MBELAGUY_INVOCATION_OUTER 0       /* u32: index of the outer instruction */
 #define MBELAGUY_INVOCATION_INNER_FLAG 4  /* 1 for an inner instruction */
 #define MBELAGUY_INVOCATION_INNER 5       /* u32: index in its group */
@@ -242,6 +242,7 @@ mbelaguy_month_answer mbelaguy_month(
 #define MBELAGUY_INVOCATION_END 14        /* u32: the first later invocation not below it, or all */
 #define MBELAGUY_INVOCATION_BITS 18       /* a sum of MBELAGUY_BIT_.. */
 #define MBELAGUY_INVOCATION_LEG 19        /* u32: 0, or 1 plus its row in table 3 */
+#define MBELAGUY_INVOCATION_PARENT 23     /* u32: 0, or 1 plus its parent's row in this table */
 
 #define MBELAGUY_BIT_TRANSFERS_INSIDE 1   /* token transfers lie below it */
 #define MBELAGUY_BIT_SWAPS_INSIDE 2       /* swap legs lie below it */
@@ -249,6 +250,12 @@ mbelaguy_month_answer mbelaguy_month(
 #define MBELAGUY_BIT_RESOLVED 8           /* its program is a key of 32 bytes */
 #define MBELAGUY_BIT_OWN_LEG 16           /* it has a row in table 3 */
 #define MBELAGUY_BIT_OWN_TRANSFER 32      /* it has a row in table 2 */
+
+/*
+ * An invocation lies below each earlier one whose end comes after it. The nearest of these is its parent;
+ * an outer instruction has none. A parent's row always comes before its children's, so that one walk over
+ * the rows draws the tree.
+ */
 
 /* Table 2, in execution order. */
 #define MBELAGUY_TRANSFER_ROW 150

@@ -6,6 +6,7 @@ use mbelaguy::pack::{Balance, Group, Inner, Instruction, KeyRow, Pack};
 use mbelaguy::rows::{Action, Invocation, Leg, Mint, MintRow, Native, Transfer};
 use mbelaguy::{base58, ids, route, Key, Month, MonthLine, Names, Table, Tables};
 use std::error::Error;
+use std::iter::successors;
 
 /// Indexes into the keys.
 const TRADER: u8 = 0;
@@ -29,7 +30,8 @@ fn main() -> Result<(), Box<dyn Error>> {
     println!("passes {}, tests {}", answer.passes, answer.tests);
 
     tables.mints().for_each(print_mint);
-    tables.invocations().for_each(print_invocation);
+    let rows: Vec<_> = tables.invocations().collect();
+    rows.iter().for_each(|row| print_invocation(row, depth(row, &rows)));
     tables.transfers().for_each(print_transfer);
     tables.legs().for_each(print_leg);
     tables.natives().for_each(print_native);
@@ -86,16 +88,23 @@ fn print_mint(row: MintRow) {
     println!("mint: account {} mint {} {}", short(&row.account), short(&row.mint), row.mark);
 }
 
-fn print_invocation(row: Invocation) {
+/// How many invocations one lies below, from parent to parent.
+fn depth(row: &Invocation, rows: &[Invocation]) -> usize {
+    successors(row.parent(), |&parent| rows[parent].parent()).count()
+}
+
+fn print_invocation(row: &Invocation, depth: usize) {
     let number = |number: Option<u32>| number.map_or("-".to_string(), |n| n.to_string());
     println!(
-        "invocation: outer {} inner {} height {} end {} bits {} leg {}",
+        "{}invocation: outer {} inner {} height {} end {} bits {} leg {} parent {}",
+        "  ".repeat(depth),
         row.outer,
         number(row.inner),
         number(row.height),
         row.end,
         row.bits(),
-        number(row.leg)
+        number(row.leg),
+        number(row.parent)
     );
 }
 

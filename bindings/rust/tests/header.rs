@@ -209,6 +209,7 @@ fn invocation_rows() {
             ("END", &[13, 14, 15, 16]),
             ("BITS", &[1 + 4 + 16]),
             ("LEG", &[18, 18, 19, 20]),
+            ("PARENT", &[22, 22, 23, 24]),
         ],
     );
     let expected = Invocation {
@@ -222,6 +223,7 @@ fn invocation_rows() {
         resolved: false,
         own_transfer: false,
         leg: Some(0x1413_1211),
+        parent: Some(0x1817_1615),
     };
     let read = tables([vec![], row, vec![], vec![], vec![]]);
     assert_eq!(read.invocations().next(), Some(expected));

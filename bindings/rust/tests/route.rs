@@ -3,6 +3,10 @@
 use mbelaguy::pack::{Balance, Group, Inner, Instruction, KeyRow, Pack, MAX_BYTES};
 use mbelaguy::rows::{Lack, Mark, Mint};
 use mbelaguy::{ids, route, route_into, Answer, Names, Refusal, Section, Table, Tables};
+use std::fs;
+use std::iter::successors;
+
+const SAMPLE: &str = concat!(env!("CARGO_MANIFEST_DIR"), "/../../examples/aggregator_swap.bin");
 
 /// A records a mint; a plain transfer carries it to B.
 fn transfer() -> Pack {
@@ -88,6 +92,26 @@ fn the_listing_of_the_scope() {
     let answer = route(&[0; 88], &pack.write().unwrap(), &mut tables).unwrap();
     assert_eq!((answer.counts, answer.passes, answer.tests), ([0, 3, 0, 0, 0], 0, 2));
     assert!(tables.invocations().all(|row| row.end == 3));
+    assert!(tables.invocations().map(|row| row.parent).eq([None, Some(0), Some(1)]));
+}
+
+/// From parent to parent: the invocations whose blocks hold one, the nearest first.
+#[test]
+fn parents_lead_through_the_blocks() {
+    let input = fs::read(SAMPLE).unwrap();
+    let (names, pack) = input.split_at(Names::BYTES);
+    let mut tables = Tables::for_pack(pack);
+    route(names, pack, &mut tables).unwrap();
+    let rows: Vec<_> = tables.invocations().collect();
+    for (number, row) in rows.iter().enumerate() {
+        assert!(row.parent() < Some(number), "row {number}: none, or an earlier one");
+        let met = successors(row.parent(), |&parent| rows[parent].parent());
+        let holds = |earlier: &usize| number < rows[*earlier].end as usize;
+        assert!(met.eq((0..number).rev().filter(holds)), "row {number}");
+    }
+    // The aggregator with its two swaps, as the rows have the parents: 0, or 1 plus a row.
+    let parents = rows[8..19].iter().map(|row| row.parent.map_or(0, |parent| parent + 1));
+    assert!(parents.eq([0, 9, 10, 10, 9, 13, 13, 13, 13, 9, 0]));
 }
 
 #[test]
@@ -122,11 +146,11 @@ fn a_refusal_empties_the_tables() {
 #[test]
 fn tables_of_any_length() {
     let pack = transfer().write().unwrap();
-    let mut tables = [131, 24, 151, 1, 0].map(|length| vec![255; length]);
+    let mut tables = [131, 28, 151, 1, 0].map(|length| vec![255; length]);
     let lent = tables.each_mut().map(Vec::as_mut_slice);
     let answer = route_into(&names(), &pack, lent);
     assert_eq!(answer.refusal(), None);
-    for (table, used) in tables.iter().zip([130, 23, 150, 0, 0]) {
+    for (table, used) in tables.iter().zip([130, 27, 150, 0, 0]) {
         assert!(table[used..].iter().all(|byte| *byte == 0));
     }
     let kept = Tables::read(&answer, tables, &pack).unwrap();

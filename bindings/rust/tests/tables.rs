@@ -4,6 +4,7 @@
 use mbelaguy::pack::{Balance, Instruction, KeyRow, Pack};
 use mbelaguy::rows::{Invocation, Lack, Mark, Mint};
 use mbelaguy::{ids, Answer, BadTable, Key, Refusal, Table, Tables, MOST_ROWS, WIDTHS};
+use std::iter::successors;
 
 /// The row of an account whose bytes are all this one.
 fn mint_row(account: u8, mark: u8) -> Vec<u8> {
@@ -168,13 +169,28 @@ fn every_byte_of_a_row_may_be_anything() {
         }
     }
     let invocation = |bits: u8| {
-        let mut row = vec![0; 23];
+        let mut row = vec![0; WIDTHS[1]];
         row[18] = bits;
         beside(vec![], Table::Invocations, row, &Pack::default()).is_ok()
     };
     assert!(invocation(Invocation::RESOLVED));
     assert!(!invocation(64));
     assert!(!invocation(Invocation::OWN_LEG), "a leg's bit without its number");
+}
+
+#[test]
+fn a_parent_is_an_index_into_the_rows() {
+    let row = |parent: u32| [&[0; 23][..], &parent.to_le_bytes()].concat();
+    let bytes = [0, 1, 2, 1].map(row).concat();
+    let bytes = [vec![], bytes, vec![], vec![], vec![]];
+    let tables = tables([0, 4, 0, 0, 0], bytes, &Pack::default()).unwrap();
+    let rows: Vec<_> = tables.invocations().collect();
+    assert!(rows.iter().map(|row| row.parent).eq([None, Some(0), Some(1), Some(0)]));
+    let above = |row: usize| successors(rows[row].parent(), |&parent| rows[parent].parent());
+    assert!(above(2).eq([1, 0]));
+    assert!(above(3).eq([0]));
+    let last = beside(vec![], Table::Invocations, row(u32::MAX), &Pack::default()).unwrap();
+    assert_eq!(last.invocations().next().unwrap().parent, Some(u32::MAX - 1));
 }
 
 #[test]

@@ -3,6 +3,7 @@
 use mbelaguy::pack::{self, Pack};
 use mbelaguy::rows::{Invocation, Leg, MintRow, Native, Transfer};
 use mbelaguy::{Answer, Key, Refusal, Tables};
+use std::collections::BTreeMap;
 
 /// The tables of an accepted pack, put together.
 #[derive(Clone, Debug)]
@@ -71,23 +72,23 @@ impl Report {
 }
 
 fn nodes(pack: &Pack, tables: &Tables) -> Vec<Node> {
-    let all = tables.invocations().len() as u32;
-    // Ends of the invocations that the current one lies below, the innermost last.
-    let mut above: Vec<u32> = Vec::new();
-    let mut nodes = Vec::with_capacity(all as usize);
+    let mut nodes: Vec<Node> = Vec::with_capacity(tables.invocations().len());
+    // The last node so far below each parent, and below none.
+    let mut latest: BTreeMap<Option<usize>, usize> = BTreeMap::new();
     for ((number, invocation), step) in (0..).zip(tables.invocations()).zip(pack.steps()) {
-        while above.last().is_some_and(|end| *end <= number) {
-            above.pop();
+        // A call's parents are earlier. One that is not, in rows made otherwise, counts as none.
+        let parent = invocation.parent().filter(|parent| *parent < number);
+        if let Some(before) = latest.insert(parent, number) {
+            nodes[before].has_next = true;
         }
         let unresolved = Program::Unresolved(step.instruction.program);
         nodes.push(Node {
             invocation,
-            depth: above.len(),
-            has_next: invocation.end < above.last().copied().unwrap_or(all),
+            depth: parent.map_or(0, |parent| nodes[parent].depth + 1),
+            has_next: false,
             program: pack.program(step.instruction).map_or(unresolved, Program::Key),
             deeds: Vec::new(),
         });
-        above.push(invocation.end);
     }
     let deeds = tables.legs().map(|leg| (leg.invocation, Deed::Leg(leg)));
     let deeds = deeds.chain(tables.transfers().map(|row| (row.invocation, Deed::Transfer(row))));

@@ -13,25 +13,33 @@ fn key_row(key: Key) -> KeyRow {
 
 /// One outer instruction and inner ones that each lie below the one before.
 fn chain(depth: u32) -> Report {
+    tree(&(0..=depth).collect::<Vec<_>>())
+}
+
+/// One outer instruction and inner ones with these parents, as rows have them: 0, or 1 plus a row. All
+/// ends are 0: parents alone draw the tree.
+fn tree(parents: &[u32]) -> Report {
+    let all = parents.len() as u32;
     let inner = |height| Inner { height: Some(height), instruction: Instruction::default() };
     let pack = Pack {
         keys: vec![key_row([7; 32])],
         outer: vec![Instruction::default()],
-        groups: vec![Group { outer: 0, instructions: (2..2 + depth).map(inner).collect() }],
+        groups: vec![Group { outer: 0, instructions: (2..1 + all).map(inner).collect() }],
         ..Pack::default()
     };
     let mut rows = Vec::new();
-    for number in 0..=depth {
+    for (number, parent) in (0u32..).zip(parents) {
         rows.extend(0u32.to_le_bytes());
         rows.push(u8::from(number > 0));
         rows.extend(number.saturating_sub(1).to_le_bytes());
         rows.push(1);
         rows.extend((number + 1).to_le_bytes());
-        rows.extend((depth + 1).to_le_bytes());
+        rows.extend(0u32.to_le_bytes());
         rows.push(Invocation::RESOLVED);
         rows.extend(0u32.to_le_bytes());
+        rows.extend(parent.to_le_bytes());
     }
-    let answer = Answer { counts: [0, depth + 1, 0, 0, 0], ..Answer::default() };
+    let answer = Answer { counts: [0, all, 0, 0, 0], ..Answer::default() };
     report(&pack, answer, [vec![], rows, vec![], vec![], vec![]])
 }
 
@@ -88,7 +96,7 @@ fn deeds() -> Report {
     let mint = |key: Key| [&[1][..], &key].concat();
     let (one, three) = ([1; 32], [3; 32]);
     let mints = [&one[..], &ids::WRAPPED_SOL, &[1]].concat();
-    let invocation = [&[0; 9][..], &[1, 1, 0, 0, 0, 1, 0, 0, 0, 48, 1, 0, 0, 0]].concat();
+    let invocation = [&[0; 9][..], &[1, 1, 0, 0, 0, 1, 0, 0, 0, 48, 1, 0, 0, 0], &[0; 4]].concat();
     let amount = [7, 0, 0, 0, 0, 0, 0, 0];
     let transfer =
         [&[0; 4][..], &ids::SPL_TOKEN, &three, &one, &[0; 33], &amount, &[0; 9]].concat();
@@ -170,6 +178,50 @@ fn a_tree_is_drawn_to_some_depth() {
     let indent = " ".repeat(12 * 3);
     assert_eq!(lines[21], format!("    20  {indent}└─ (depth 20) {program}.19, height 21]"));
     assert!(page("chain", &Ok(chain(20)), Keys::Short).contains("depth 20"));
+}
+
+/// The tree without what is told of each invocation, and the depths of the page.
+fn drawn(parents: &[u32]) -> (String, Vec<usize>) {
+    let shown = text(&tree(parents), Keys::Short);
+    let lines = shown.lines().skip_while(|line| *line != "Invocations");
+    let lines = lines.filter_map(|line| line.split("  [").next());
+    let page = page("tree", &Ok(tree(parents)), Keys::Short);
+    let depths = page.split("style=\"--depth:").skip(1);
+    let depths = depths.map(|rest| rest.split('"').next().unwrap().parse().unwrap());
+    (lines.map(|line| format!("{line}\n")).collect(), depths.collect())
+}
+
+#[test]
+fn a_tree_is_drawn_by_parents() {
+    let expected = "\
+Invocations
+  0  US51..ELFx
+  1  ├─ US51..ELFx
+  2  │  └─ US51..ELFx
+  3  ├─ US51..ELFx
+  4  │  ├─ US51..ELFx
+  5  │  └─ US51..ELFx
+  6  └─ US51..ELFx
+";
+    let (shown, depths) = drawn(&[0, 1, 2, 1, 4, 4, 1]);
+    assert_eq!(shown, expected);
+    assert_eq!(depths, [0, 1, 2, 1, 2, 2, 1]);
+}
+
+/// Itself, a later row, and one that there is not.
+#[test]
+fn a_parent_that_is_not_earlier_is_none() {
+    let expected = "\
+Invocations
+  0  US51..ELFx
+  1  US51..ELFx
+  2  └─ US51..ELFx
+  3  US51..ELFx
+  4  └─ US51..ELFx
+";
+    let (shown, depths) = drawn(&[1, 3, 2, u32::MAX, 4]);
+    assert_eq!(shown, expected);
+    assert_eq!(depths, [0, 0, 1, 0, 1]);
 }
 
 #[test]

@@ -27,6 +27,8 @@ pub struct Invocation {
     pub own_transfer: bool,
     /// Its row among the legs.
     pub leg: Option<u32>,
+    /// Its parent: the row of the nearest earlier invocation that it lies below.
+    pub parent: Option<u32>,
 }
 
 impl Invocation {
@@ -57,6 +59,12 @@ impl Invocation {
         .map(|(is, bit)| u8::from(is) * bit)
         .sum()
     }
+
+    /// The parent as an index into the rows. Of rows that a call left it is always an earlier one, so
+    /// that one walk over them draws the tree.
+    pub fn parent(&self) -> Option<usize> {
+        self.parent.map(|parent| parent as usize)
+    }
 }
 
 impl Row for Invocation {
@@ -69,6 +77,7 @@ impl Row for Invocation {
         let end = reader.u32()?;
         let bits = reader.byte()?;
         let leg = reader.u32()?.checked_sub(1);
+        let parent = reader.u32()?.checked_sub(1);
         let invocation = Invocation {
             outer,
             inner,
@@ -80,6 +89,7 @@ impl Row for Invocation {
             resolved: bits & Self::RESOLVED != 0,
             own_transfer: bits & Self::OWN_TRANSFER != 0,
             leg,
+            parent,
         };
         // Also refuses unknown bits, and a bit 'own leg' that does not go with the leg's number.
         (invocation.bits() == bits).then_some(invocation)

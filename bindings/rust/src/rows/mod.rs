@@ -25,6 +25,12 @@
 //! let moved = tables.transfers().filter(|transfer| below.contains(&transfer.invocation));
 //! assert_eq!(moved.map(|row| row.amount).collect::<Vec<_>>(), [900_000_000, 1_203_456_789]);
 //!
+//! // What the first transfer lies below, from parent to parent: its swap, and the aggregator.
+//! let rows: Vec<_> = tables.invocations().collect();
+//! let first = tables.transfers().next().expect("six transfers").invocation as usize;
+//! let above = std::iter::successors(rows[first].parent(), |&row| rows[row].parent());
+//! assert_eq!(above.collect::<Vec<_>>(), [9, 8]);
+//!
 //! assert!(tables.transfers().all(|transfer| transfer.mint.mark() == Some(Mark::Recorded)));
 //! let close = |action| matches!(action, Action::Close { .. });
 //! assert!(tables.natives().any(|native| close(native.action)));
