@@ -28,7 +28,8 @@ fn print(Reply { answer, tables }: &Reply) -> String {
             _ => number(flag + 1).to_string(),
         };
         let (inner, height) = (optional(4), optional(9));
-        writeln!(text, "{} {inner} {height} {} {}", number(0), number(14), row[18])
+        let (outer, end, bits, parent) = (number(0), number(14), row[18], number(23));
+        writeln!(text, "{outer} {inner} {height} {end} {bits} {parent}")
             .expect("a string takes every line");
     }
     text

@@ -3,6 +3,7 @@
 use compare::checks::{
     cases::CASES, chosen, coverage, ids, mutants, packs, refusals::REFUSALS, sample,
 };
+use compare::oracle::blocks::parents;
 
 #[test]
 fn cases_of_document_01() {
@@ -15,6 +16,22 @@ fn cases_of_document_01() {
 fn refusals_of_document_01() {
     for (name, refusal) in REFUSALS {
         assert_eq!(refusal(), Ok(()), "{name}");
+    }
+}
+
+/// By the ends of blocks, and as rows have it: 0, or 1 plus the parent.
+#[test]
+fn parents_of_blocks() {
+    let blocks: [(&[usize], &[usize]); 5] = [
+        (&[], &[]),
+        (&[3, 3, 3], &[0, 1, 2]),
+        (&[3, 2, 3], &[0, 1, 1]),
+        (&[1, 2], &[0, 0]),
+        (&[2, 2, 6, 5, 5, 6], &[0, 1, 0, 3, 4, 3]),
+    ];
+    for (ends, expected) in blocks {
+        let found = parents(ends).into_iter().map(|parent| parent.map_or(0, |row| row + 1));
+        assert_eq!(found.collect::<Vec<_>>(), expected, "{ends:?}");
     }
 }
 

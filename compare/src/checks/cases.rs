@@ -115,18 +115,20 @@ fn with_heights(heights: [Option<u32>; 2]) -> Pack {
     }
 }
 
-fn ends_and_tests(heights: [Option<u32>; 2], ends: [u8; 3], tests: u32) -> Outcome {
+fn blocks(heights: [Option<u32>; 2], ends: [u8; 3], parents: [u8; 3], tests: u32) -> Outcome {
     let reply = reply(&with_heights(heights))?;
-    same("ends", [0, 1, 2].map(|i| reply.tables[1][i * WIDTHS[1] + 14]), ends)?;
+    let field = |at: usize| [0, 1, 2].map(|i| reply.tables[1][i * WIDTHS[1] + at]);
+    same("ends", field(14), ends)?;
+    same("parents", field(23), parents)?;
     same("tests", reply.answer.tests, tests)
 }
 
 fn d() -> Outcome {
-    ends_and_tests([Some(2), Some(3)], [3, 3, 3], 2)
+    blocks([Some(2), Some(3)], [3, 3, 3], [0, 1, 2], 2)
 }
 
 fn e() -> Outcome {
-    ends_and_tests([Some(2), None], [3, 2, 3], 3)
+    blocks([Some(2), None], [3, 2, 3], [0, 1, 1], 3)
 }
 
 fn f() -> Outcome {
@@ -188,7 +190,7 @@ fn printed_listing() -> Outcome {
     let bytes = with_heights([Some(2), Some(3)]).write().map_err(|error| format!("{error:?}"))?;
     let starts: Vec<_> = bytes[40..60].chunks(4).map(|start| start[0]).collect();
     same("starts", starts, vec![0, 0, 0, 8, 40])?;
-    let lines = "ok 0 3 0 0 0 passes 0 tests 2\n0 - 1 3 0\n0 0 2 3 0\n0 1 3 3 0\n";
+    let lines = "ok 0 3 0 0 0 passes 0 tests 2\n0 - 1 3 0 0\n0 0 2 3 0 1\n0 1 3 3 0 2\n";
     same("listing", listing(&[&[0; 88][..], &bytes].concat()), lines.to_string())
 }
 

@@ -37,6 +37,7 @@ pub fn reply(case: &Case, examined: &Result<Examined, Refusal>, reply: &Reply) -
         hold("invocation numbers", numbers.iter().all(|number| *number < answer.counts[1]))?;
     }
     own_rows(reply)?;
+    parents(reply)?;
     wrapped_sol(reply)
 }
 
@@ -68,6 +69,26 @@ fn own_rows(reply: &Reply) -> Outcome {
         same("leg number", number(row, 19), leg)?;
         hold("skipped programs are resolved", bits & 4 == 0 || bits & 8 != 0)?;
         hold("skipped programs have no leg", bits & 4 == 0 || bits & 16 == 0)?;
+    }
+    Ok(())
+}
+
+/// Parents by one walk over the rows that keeps the open blocks, the innermost last: that is the
+/// parent's, and the row's own block ends inside it.
+fn parents(reply: &Reply) -> Outcome {
+    let mut open: Vec<(u32, u32)> = Vec::new();
+    for (i, row) in (0u32..).zip(rows(reply, 1)) {
+        while open.last().is_some_and(|(_, end)| *end <= i) {
+            open.pop();
+        }
+        let (end, parent) = (number(row, 14), number(row, 23));
+        let all = (0, reply.answer.counts[1]);
+        let (innermost, last) = open.last().map_or(all, |(holder, end)| (holder + 1, *end));
+        same("parent", parent, innermost)?;
+        hold("a parent comes before its children", parent <= i)?;
+        hold("blocks are nested or apart", end <= last)?;
+        same("inner instructions have a parent and outer ones none", parent > 0, row[4] == 1)?;
+        open.push((i, end));
     }
     Ok(())
 }
@@ -109,7 +130,7 @@ fn end(invocations: &[Invocation], i: usize) -> usize {
 
 /// An outer holds all its inners; an inner holds a later one of the same outer if its inner index is
 /// greater, both heights are known and the later one is greater.
-fn holds(parent: &Invocation, child: &Invocation) -> bool {
+pub fn holds(parent: &Invocation, child: &Invocation) -> bool {
     let inside = match (parent.inner, child.inner) {
         (_, None) => false,
         (None, Some(_)) => true,

@@ -26,7 +26,8 @@ pub fn agree(examined: &Examined, reply: &Reply, pack: &[u8]) -> Outcome {
     let mut natives = tables.natives();
     same("invocations", tables.invocations().len(), facts.invocations.len())?;
     for ((number, row), invocation) in (0..).zip(tables.invocations()).zip(&facts.invocations) {
-        same("invocation", row, invocation_row(invocation))?;
+        let parent = examined.parents[number as usize];
+        same("invocation", row, invocation_row(invocation, parent))?;
         if let Some(transfer) = &invocation.transfer {
             same("transfer", transfers.next(), Some(transfer_row(number, transfer, known)))?;
         }
@@ -45,7 +46,7 @@ pub fn agree(examined: &Examined, reply: &Reply, pack: &[u8]) -> Outcome {
     same("rows left", (transfers.len(), legs.len(), natives.len()), (0, 0, 0))
 }
 
-fn invocation_row(invocation: &facts::Invocation) -> Invocation {
+fn invocation_row(invocation: &facts::Invocation, parent: Option<usize>) -> Invocation {
     Invocation {
         outer: invocation.outer,
         inner: invocation.inner,
@@ -57,6 +58,7 @@ fn invocation_row(invocation: &facts::Invocation) -> Invocation {
         resolved: invocation.resolved,
         own_transfer: invocation.transfer.is_some(),
         leg: invocation.leg.map(|leg| leg as u32),
+        parent: parent.map(|parent| parent as u32),
     }
 }
 

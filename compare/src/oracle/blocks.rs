@@ -1,5 +1,11 @@
-//! The number of tests, by its definition over the blocks. An invocation's block is all that comes
-//! after it and before its end.
+//! Parents and the number of tests, by their definitions over the blocks. An invocation's block is all
+//! that comes after it and before its end.
+
+/// For each invocation its parent: the nearest earlier one whose block holds it.
+pub fn parents(ends: &[usize]) -> Vec<Option<usize>> {
+    let parent = |member: usize| (0..member).rev().find(|&earlier| member < ends[earlier]);
+    (0..ends.len()).map(parent).collect()
+}
 
 /// For each invocation the members of its block that lie in no other member's block, and one more if
 /// the block ends before the last invocation does.

@@ -1,7 +1,7 @@
 //! The oracle: names, pack and five table lengths give the answer and the five tables.
 //!
 //! Refusals are decided here. Every ported answer comes from the original's functions (`original`).
-//! What the original does not have (marks, passes, room, tests, the tables' bytes) follows its
+//! What the original does not have (marks, passes, room, parents, tests, the tables' bytes) follows its
 //! definition: `mints` and `blocks` work it out from what was recorded and from the ends of blocks.
 
 pub mod blocks;
@@ -28,6 +28,8 @@ pub struct Examined {
     pub pack: Pack,
     pub facts: Facts,
     pub mints: Mints,
+    /// The parent of each invocation.
+    pub parents: Vec<Option<usize>>,
     pub tests: usize,
     /// Used rows of the five tables.
     pub rows: [Vec<u8>; 5],
@@ -109,9 +111,9 @@ fn examine_by(facts: &feed::FactsOf<'_>, names: &[u8], bytes: &[u8]) -> Result<E
         return Err(Refusal::Passes);
     }
     let ends: Vec<_> = facts.invocations.iter().map(|invocation| invocation.end).collect();
-    let tests = blocks::tests(&ends);
-    let rows = rows::tables(&facts, &mints);
+    let (parents, tests) = (blocks::parents(&ends), blocks::tests(&ends));
+    let rows = rows::tables(&facts, &mints, &parents);
     let mut needs = std::array::from_fn(|t| rows[t].len() / WIDTHS[t]);
     needs[0] = mints.room;
-    Ok(Examined { pack, facts, mints, tests, rows, needs })
+    Ok(Examined { pack, facts, mints, parents, tests, rows, needs })
 }

@@ -3,7 +3,7 @@
 use super::mints::Mints;
 use original::facts::{Action, Facts, Invocation, Key, Leg, Native, Transfer};
 
-pub fn tables(facts: &Facts, mints: &Mints) -> [Vec<u8>; 5] {
+pub fn tables(facts: &Facts, mints: &Mints, parents: &[Option<usize>]) -> [Vec<u8>; 5] {
     let mut tables: [Vec<u8>; 5] = Default::default();
     let [mint_rows, invocations, transfers, legs, natives] = &mut tables;
     for (account, mint) in &facts.mints {
@@ -11,8 +11,8 @@ pub fn tables(facts: &Facts, mints: &Mints) -> [Vec<u8>; 5] {
         mint_rows.extend(mint);
         mint_rows.push(mints.marks[account]);
     }
-    for (number, invocation) in (0u32..).zip(&facts.invocations) {
-        put_invocation(invocations, invocation);
+    for ((number, invocation), parent) in (0u32..).zip(&facts.invocations).zip(parents) {
+        put_invocation(invocations, invocation, *parent);
         if let Some(transfer) = &invocation.transfer {
             put_transfer(transfers, number, transfer);
         }
@@ -26,7 +26,7 @@ pub fn tables(facts: &Facts, mints: &Mints) -> [Vec<u8>; 5] {
     tables
 }
 
-fn put_invocation(table: &mut Vec<u8>, invocation: &Invocation) {
+fn put_invocation(table: &mut Vec<u8>, invocation: &Invocation, parent: Option<usize>) {
     table.extend(invocation.outer.to_le_bytes());
     put_optional(table, invocation.inner.map(u32::to_le_bytes));
     put_optional(table, invocation.height.map(u32::to_le_bytes));
@@ -40,7 +40,8 @@ fn put_invocation(table: &mut Vec<u8>, invocation: &Invocation) {
         (invocation.transfer.is_some(), 32),
     ];
     table.push(bits.iter().filter(|bit| bit.0).map(|bit| bit.1).sum());
-    table.extend(invocation.leg.map_or(0, |leg| leg as u32 + 1).to_le_bytes());
+    put_row_number(table, invocation.leg);
+    put_row_number(table, parent);
 }
 
 fn put_transfer(table: &mut Vec<u8>, number: u32, transfer: &Transfer) {
@@ -81,6 +82,11 @@ fn put_native(table: &mut Vec<u8>, number: u32, native: &Native) {
     table.extend(other);
     table.extend(authority);
     table.extend(lamports.to_le_bytes());
+}
+
+/// 1 plus the number of a row, 0 where there is none.
+fn put_row_number(table: &mut Vec<u8>, row: Option<usize>) {
+    table.extend(row.map_or(0, |row| row as u32 + 1).to_le_bytes());
 }
 
 /// A flag, then the bytes, which are zero where there are none.

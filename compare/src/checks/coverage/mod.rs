@@ -118,6 +118,11 @@ const SINGLE: &[&str] = &[
     "deep group",
     "zigzag group",
     "chain of 1,024 invocations",
+    "parent with a parent",
+    "parent of several",
+    "sibling behind a child with children",
+    "parent that heights alone would not name",
+    "parent 1,023",
     "several groups of one outer",
     "groups out of order",
     "dropped group",
@@ -225,6 +230,7 @@ impl Coverage {
         self.note_mints(examined);
         self.note_doubt(examined);
         self.note_trees(examined);
+        self.note_parents(examined);
         for invocation in &examined.facts.invocations {
             self.note_token(invocation);
             self.note_swap(case, examined, invocation);

@@ -201,4 +201,23 @@ impl Coverage {
             self.note_if("zigzag group", steps().enumerate().all(up_and_down));
         }
     }
+
+    pub fn note_parents(&mut self, examined: &Examined) {
+        let (invocations, parents) = (&examined.facts.invocations, &examined.parents);
+        let named = || parents.iter().flatten();
+        self.note_if("parent with a parent", named().any(|parent| parents[*parent].is_some()));
+        let distinct: BTreeSet<_> = named().collect();
+        self.note_if("parent of several", distinct.len() < named().count());
+        let passed = |child: usize| {
+            let end = invocations[child].end;
+            child + 1 < end && parents[child].is_some() && parents.get(end) == parents.get(child)
+        };
+        self.note_if("sibling behind a child with children", (0..parents.len()).any(passed));
+        // Index and height may put it below an earlier one whose block has ended.
+        let by_heights =
+            |i: usize| (0..i).rev().find(|k| invariants::holds(&invocations[*k], &invocations[i]));
+        let other = (0..parents.len()).any(|i| by_heights(i) != parents[i]);
+        self.note_if("parent that heights alone would not name", other);
+        self.note_if("parent 1,023", parents.get(1_023) == Some(&Some(1_022)));
+    }
 }
