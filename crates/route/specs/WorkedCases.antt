@@ -1,5 +1,5 @@
--- The worked cases, in one list: whole rows of each table, the programs that are passed over, limits, and the legs of WorkedLegs. A number of the
--- data has bytes that are all different, and every account its own key, so that exchanged places show.
+-- The worked cases, in one list: whole rows of each table, the programs that are passed over, the limit of keys, the room of table 1, and the legs of
+-- WorkedLegs. A number of the data has bytes that are all different, and every account its own key, so that exchanged places show.
 -- Assumes nothing.
 use Prim.Native.Nat.{ℕ}
 use mathlib.Core.List.{List, [], _∷_, _++_, map}
@@ -186,9 +186,13 @@ rowCases =
     )
     ∷ []
 
--- 256 keys are taken, 257 refused; 19 invocations have room in table 1, 20 have not
-unfoldable pub limitCases : List (View × Shown)
-limitCases = (keyed 256, answers 0 0) ∷ (keyed 257, answers 5 0) ∷ (outers 19, answers 0 0) ∷ (outers 20, answers 8 1) ∷ []
+-- 256 keys are taken, 257 refused
+unfoldable pub keyCases : List (View × Shown)
+keyCases = (keyed 256, answers 0 0) ∷ (keyed 257, answers 5 0) ∷ []
+
+-- 19 invocations have room in the 513 bytes of table 1, 20 have not
+unfoldable pub roomCases : List (View × Shown)
+roomCases = (outers 19, answers 0 0) ∷ (outers 20, answers 8 1) ∷ []
 
 unfoldable pub worked : List (View × Shown)
-worked = rowCases ++ limitCases ++ legCases
+worked = rowCases ++ keyCases ++ roomCases ++ legCases
