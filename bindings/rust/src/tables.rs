@@ -8,7 +8,7 @@ use std::fmt;
 use std::sync::OnceLock;
 
 /// Bytes of a row in tables 0 to 4.
-pub const WIDTHS: [usize; 5] = [65, 27, 150, 250, 109];
+pub const WIDTHS: [usize; 5] = [65, 28, 150, 250, 109];
 
 /// The most rows that tables 0 to 4 can need: a mint for each key, one of the others for each
 /// invocation.

@@ -1,6 +1,6 @@
 //! Table 1: the invocations in execution order.
 
-use super::Row;
+use super::{Reason, Row};
 use crate::bytes::Reader;
 use crate::{Table, Tables};
 
@@ -29,6 +29,8 @@ pub struct Invocation {
     pub leg: Option<u32>,
     /// Its parent: the row of the nearest earlier invocation that it lies below.
     pub parent: Option<u32>,
+    /// Why it is no token transfer; none where it is one.
+    pub reason: Option<Reason>,
 }
 
 impl Invocation {
@@ -78,6 +80,10 @@ impl Row for Invocation {
         let bits = reader.byte()?;
         let leg = reader.u32()?.checked_sub(1);
         let parent = reader.u32()?.checked_sub(1);
+        let reason = match reader.byte()? {
+            0 => None,
+            number => Some(Reason::of(number)?),
+        };
         let invocation = Invocation {
             outer,
             inner,
@@ -90,8 +96,10 @@ impl Row for Invocation {
             own_transfer: bits & Self::OWN_TRANSFER != 0,
             leg,
             parent,
+            reason,
         };
         // Also refuses unknown bits, and a bit 'own leg' that does not go with the leg's number.
-        (invocation.bits() == bits).then_some(invocation)
+        let sound = invocation.bits() == bits && invocation.own_transfer == reason.is_none();
+        sound.then_some(invocation)
     }
 }

@@ -41,12 +41,14 @@ mod invocation;
 mod leg;
 mod mint;
 mod native;
+mod reason;
 mod transfer;
 
 pub use invocation::Invocation;
 pub use leg::{Leg, Mode, Protocol};
 pub use mint::{Lack, Mark, Mint, MintRow};
 pub use native::{Action, Native};
+pub use reason::Reason;
 pub use transfer::Transfer;
 
 use crate::bytes::Reader;
