@@ -16,7 +16,7 @@ use Rattle.token.specs.Transfers.{Transfer, transfer}
 use Rattle.token.specs.Rows.{transferWidth, feeField, transferRow}
 use Rattle.token.specs.Moved.{transferValue, movedOf}
 use Rattle.token.specs.declared.Moved.{Moved}
-use Rattle.token.specs.declared.Moved.the-variants.{Nothing, FeeUnknown, FeeKnown}
+use Rattle.token.specs.declared.Moved.the-variants.{NotToken, UnsupportedTag, TooFewAccounts, DataTooShort, ZeroKey, FeeUnknown, FeeKnown}
 use Rattle.token.proofs.Laws.{moved-value}
 
 -- the fields of a row of the table of transfers fill it
@@ -51,6 +51,10 @@ transfer-length κ long id accounts bytes {t} e i p m hp hm = go (movedOf κ id 
     by {x} hs hd q = subst (λ (y : Transfer). length (transferRow i p m y) ≡ transferWidth) (Option·some-injective x t q) (row-length i p m x hp hm hs hd)
 
     go : (r : Moved) → transferValue κ r ≡ some t → length (transferRow i p m t) ≡ transferWidth
-    go Nothing q = absurd (Option·none-ne-some t q)
+    go NotToken q = absurd (Option·none-ne-some t q)
+    go UnsupportedTag q = absurd (Option·none-ne-some t q)
+    go TooFewAccounts q = absurd (Option·none-ne-some t q)
+    go DataTooShort q = absurd (Option·none-ne-some t q)
+    go ZeroKey q = absurd (Option·none-ne-some t q)
     go (FeeUnknown s d a) q = by (long s) (long d) q
     go (FeeKnown s d a f) q = by (long s) (long d) q

@@ -5,4 +5,6 @@ pub mod Laws
 pub mod Fields
 pub mod Differences
 pub mod Published
+pub mod Reasons
+pub mod Answers
 pub mod Cases

@@ -2,7 +2,7 @@
 -- Assumes nothing.
 use mathlib.Core.Path.{_≡_, sym}
 use mathlib.Core.Logic.{_≢_}
-use mathlib.Core.Bool.{Bool, true, false, cond, _&&_, _||_, and-false, or-false, false≢true}
+use mathlib.Core.Bool.{Bool, true, false, cond, _&&_, _||_, and-false, or-false, or-true, false≢true}
 use mathlib.Core.List.{List}
 use Prim.Native.Nat.{ℕ}
 use lib.Dec.{leb, eqb}
@@ -22,6 +22,10 @@ not-2022 id t = go (sameId id SplToken) (sameId id Token2022) t
     go : (a b : Bool) → (a || b) ≡ false → b ≡ false
     go true b e = absurd (false≢true (sym e))
     go false b e = e
+
+pub is-2022 : (id : Id) → isToken2022 id ≡ true → isToken id ≡ true
+unfolding isToken isToken2022
+is-2022 id t = rw t (or-true (sameId id SplToken))
 
 module _ (id : Id) (n : ℕ) (d : List ℕ) where
   -- no token program

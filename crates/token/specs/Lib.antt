@@ -6,3 +6,4 @@ pub mod Moved
 pub mod Rows
 pub mod Published
 pub mod ByLayout
+pub mod Reasons

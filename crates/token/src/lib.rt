@@ -10,7 +10,8 @@ ghost use Rattle.token.specs.Programs.{isToken, isSpl, isToken2022};
 ghost use Rattle.token.specs.declared.Token.the-variants.{Other, Initialise, Plain, Checked, WithFee};
 ghost use Rattle.token.specs.Tokens.{plainAmount, checkedAmount, feeTransferAmount, feeTransferFee, tokenOf};
 ghost use Rattle.token.specs.Transfers.{transfer as transferOf};
-ghost use Rattle.token.specs.Moved.{transferValue, feeless, movedBy, movedOf, sourceBy};
+ghost use Rattle.token.specs.Reasons.{reason as reasonFor};
+ghost use Rattle.token.specs.Moved.{transferValue, feeless, accountsNamed, whyNone, movedBy, movedOf, sourceBy, reasonOf};
 use ids::Id;
 
 pub mod row;
@@ -57,14 +58,18 @@ fn exactly(len: usize, want: usize, n: usize, accounts: usize) -> bool
     len == want && accounts <= n
 }
 
-// Whether a fee is named: the byte after tag 26, and room for both numbers.
+// Whether tag 26 begins a transfer with its fee: one program has it, and the byte after the tag says so.
+fn fee_tag(id: Id, data: &[u8]) -> bool
+    ensures { λ r. ⌜ r ≡ (isToken2022 id && eqb (getD (now («data» .entry)) 1 0) 1) ⌝ }
+{
+    token_2022(id) && wire::byte(data, 1) == 1
+}
+
+// Whether a fee is named: by the tag, and with room for both numbers.
 fn names_fee(id: Id, n: usize, data: &[u8]) -> bool
     ensures { λ r. ⌜ r ≡ (isToken2022 id && eqb (getD (now («data» .entry)) 1 0) 1 && leb 19 (length (now («data» .entry))) && leb 4 n) ⌝ }
 {
-    if !token_2022(id) {
-        return false;
-    }
-    if wire::byte(data, 1) != 1 {
+    if !fee_tag(id, data) {
         return false;
     }
     at_least(data.len(), 19, n, 4)
@@ -134,9 +139,14 @@ pub fn parse(id: Id, accounts: usize, data: &[u8]) -> Token
     }
 }
 
-// The transfer that an instruction gives: index bytes of source and destination, amount, and the fee where it is known.
+// The transfer that an instruction gives: index bytes of source and destination, amount, and the fee where it is known. Or why it gives none: the first test
+// that it fails.
 pub enum Moved {
-    Nothing,
+    NotToken,
+    UnsupportedTag,
+    TooFewAccounts,
+    DataTooShort,
+    ZeroKey,
     FeeUnknown(u8, u8, u64),
     FeeKnown(u8, u8, u64, u64),
 }
@@ -183,9 +193,46 @@ fn without_fee(id: Id, source: u8, destination: u8, amount: u64) -> Moved
     }
 }
 
+// The accounts that tag 26 asks for; 0 where it begins no transfer.
+fn fee_accounts(id: Id, data: &[u8]) -> usize
+    ensures { λ r. ⌜ r ≡ cond (isToken2022 id && eqb (getD (now («data» .entry)) 1 0) 1) 4 0 ⌝ }
+{
+    if fee_tag(id, data) { 4 } else { 0 }
+}
+
+// The accounts that a transfer with this tag asks for; 0 where no transfer begins so.
+fn accounts_named(id: Id, data: &[u8]) -> usize
+    ensures { λ r. ⌜ r ≡ accountsNamed id (now («data» .entry)) ⌝ }
+{
+    let tag = wire::byte(data, 0);
+    match tag {
+        3 => 3,
+        12 => 4,
+        26 => fee_accounts(id, data),
+        _ => 0,
+    }
+}
+
+// Why an instruction that is not read as a transfer gives none. Where tag and accounts are right, its data must be too short.
+fn why_none(id: Id, accounts: usize, data: &[u8]) -> Moved
+    ensures { λ r. ⌜ r ≡ whyNone id accounts (now («data» .entry)) ⌝ }
+{
+    if !token_program(id) {
+        return Moved::NotToken;
+    }
+    let named = accounts_named(id, data);
+    if named == 0 {
+        return Moved::UnsupportedTag;
+    }
+    if accounts < named {
+        return Moved::TooFewAccounts;
+    }
+    Moved::DataTooShort
+}
+
 // The transfer of an instruction that is read.
-fn moved_by(token: Token, id: Id, keys: &[u8], accounts: &[u8]) -> Moved
-    ensures { λ r. ⌜ r ≡ movedBy (keyOf (now (keys .entry))) id (now (accounts .entry)) token ⌝ }
+fn moved_by(token: Token, id: Id, keys: &[u8], accounts: &[u8], data: &[u8]) -> Moved
+    ensures { λ r. ⌜ r ≡ movedBy (keyOf (now (keys .entry))) id (now (accounts .entry)) (now («data» .entry)) token ⌝ }
 {
     let first = wire::byte(accounts, 0);
     let second = wire::byte(accounts, 1);
@@ -193,33 +240,34 @@ fn moved_by(token: Token, id: Id, keys: &[u8], accounts: &[u8]) -> Moved
     match token {
         Token::Plain(amount) => {
             if no_ends(keys, first, second) {
-                return Moved::Nothing;
+                return Moved::ZeroKey;
             }
             without_fee(id, first, second, amount)
         }
         Token::Checked(amount) => {
             if no_checked_ends(keys, first, third, second) {
-                return Moved::Nothing;
+                return Moved::ZeroKey;
             }
             without_fee(id, first, third, amount)
         }
         Token::WithFee(amount, fee) => {
             if no_checked_ends(keys, first, third, second) {
-                return Moved::Nothing;
+                return Moved::ZeroKey;
             }
             Moved::FeeKnown(first, third, amount, fee)
         }
-        Token::Other => Moved::Nothing,
-        Token::Initialise => Moved::Nothing,
+        Token::Other => why_none(id, accounts.len(), data),
+        Token::Initialise => Moved::UnsupportedTag,
     }
 }
 
-// The transfer that an instruction gives.
+// The transfer that an instruction gives, or why it gives none.
 pub fn transfer(id: Id, keys: &[u8], accounts: &[u8], data: &[u8]) -> Moved
     ensures { λ r. ⌜ r ≡ movedOf (keyOf (now (keys .entry))) id (now (accounts .entry)) (now («data» .entry)) ⌝ }
     ensures { λ r. ⌜ transferValue (keyOf (now (keys .entry))) r ≡ transferOf (keyOf (now (keys .entry))) id (now (accounts .entry)) (now («data» .entry)) ⌝ }
+    ensures { λ r. ⌜ reasonOf r ≡ reasonFor (keyOf (now (keys .entry))) id (now (accounts .entry)) (now («data» .entry)) ⌝ }
 {
-    moved_by(parse(id, accounts.len(), data), id, keys, accounts)
+    moved_by(parse(id, accounts.len(), data), id, keys, accounts, data)
 }
 
 // The index of a transfer's source, for its mint to be looked up; 0 where there is no transfer.
@@ -227,8 +275,27 @@ pub fn source(moved: Moved) -> u8
     ensures { λ r. ⌜ r ≡ sourceBy moved ⌝ }
 {
     match moved {
-        Moved::Nothing => 0,
+        Moved::NotToken
+        | Moved::UnsupportedTag
+        | Moved::TooFewAccounts
+        | Moved::DataTooShort
+        | Moved::ZeroKey => 0,
         Moved::FeeUnknown(s, _, _) => s,
         Moved::FeeKnown(s, _, _, _) => s,
+    }
+}
+
+// The number of each case: 0 for a transfer, else why there is none.
+pub fn reason(moved: Moved) -> u8
+    ensures { λ r. ⌜ r ≡ reasonOf moved ⌝ }
+{
+    match moved {
+        Moved::NotToken => 1,
+        Moved::UnsupportedTag => 2,
+        Moved::TooFewAccounts => 3,
+        Moved::DataTooShort => 4,
+        Moved::ZeroKey => 5,
+        Moved::FeeUnknown(_, _, _) => 0,
+        Moved::FeeKnown(_, _, _, _) => 0,
     }
 }

@@ -58,7 +58,11 @@ pub fn put_row(
         (transferBytes invocation (keyOf (now (keys .entry)) program) (mintOf (now (mint .entry))) (transferValue (keyOf (now (keys .entry))) moved)) ⌝ }
 {
     match moved {
-        Moved::Nothing => {}
+        Moved::NotToken
+        | Moved::UnsupportedTag
+        | Moved::TooFewAccounts
+        | Moved::DataTooShort
+        | Moved::ZeroKey => {}
         Moved::FeeUnknown(source, destination, amount) => {
             let fields = Fields {
                 source,

@@ -59,6 +59,9 @@ returns-3 c =
 enum-told : tie.Need-enum-told
 enum-told c = search needs
 
+why-none-requires : tie.Need-why-none-requires
+why-none-requires c κs = search needs
+
 enum-told-2 : tie.Need-enum-told-2
 enum-told-2 c = search needs
 
@@ -81,7 +84,7 @@ returns-6 c =
     rw (case .token3 .given .1, ← second .before .byte .ensures, ← second .byte2 .ensures, ← case .before .before .byte3 .ensures, sym (c .before .no-checked-ends2 .ensures) ∙ c .if3 .left)
 
 returns-7 : tie.Need-returns-7
-returns-7 c = rw (c .enum-told .given .1)
+returns-7 c = rw (c .before .enum-told .given .1) (c .why-none .ensures)
 
 returns-8 : tie.Need-returns-8
 returns-8 c = rw (c .enum-told2 .given .1)
@@ -105,6 +108,7 @@ moved-by-spec =
     no-checked-ends-requires-2
     returns-3
     enum-told
+    why-none-requires
     enum-told-2
     returns-4
     returns-5

@@ -1,6 +1,6 @@
--- The numbers are the definition's, and have the Rust's value (`tells`).
+-- The numbers are the definition's, and have the Rust's value and the layouts' reason (`tells`).
 -- Assumes nothing.
-use Rattle.token.proofs.Laws.{tells}
+use Rattle.token.proofs.Reasons.{tells}
 use Rattle.ids.specs.Keys.{keyOf}
 use mathlib.Core.Path.{_∙_}
 use borrow.Author.Needs.{needs}

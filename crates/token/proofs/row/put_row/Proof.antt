@@ -1,13 +1,12 @@
 -- The case names the fields, an absent fee being nine zero bytes.
 -- Assumes nothing.
 use Rattle.wire.specs.Le.{leBytes}
+use Rattle.ids.specs.Keys.{keyOf}
 use Rattle.token.specs.Rows.{transferRow, rowByNumbers}
+use Rattle.token.proofs.Laws.{why-none}
 use borrow.Author.Needs.{needs}
 use Rattle.token.proofs.row.put_row.Statement.{statement}
 use Rattle.token.proofs.row.put_row.Tie as tie
-
-enum-told : tie.Need-enum-told
-enum-told c = search needs
 
 enum-known-moved : tie.Need-enum-known-moved
 enum-known-moved c = search needs
@@ -22,7 +21,9 @@ put-fields-requires-2 : tie.Need-put-fields-requires-2
 put-fields-requires-2 c κs = search needs
 
 returns : tie.Need-returns
-returns c = search needs
+returns c =
+    let a = c .before .before .before .before .args in
+    rw (why-none (keyOf (a .keys .now)) (a .moved) (c .match .keys1) .0)
 
 same-length : tie.Need-same-length
 same-length c = search needs
@@ -42,7 +43,6 @@ pub put-row-spec : {M : Type 1} → statement M
 put-row-spec =
     tie.close
     (tie.spec
-    enum-told
     enum-known-moved
     put-fields-requires
     enum-known-moved-2
