@@ -6,6 +6,7 @@ use mathlib.Core.List.{List, _++_}
 use Prim.Native.Nat.{ℕ, zero, suc, _-_, _≤_}
 use native.Mathlib.Omega.{arith}
 use lib.ListN.{length, getD}
+use lib.Seq.{sets}
 use Rattle.wire.specs.Zeros.{zeros}
 use Rattle.wire.proofs.Zeros.{zeros-at}
 use Rattle.pack.specs.Invocation.{Position}
@@ -18,10 +19,10 @@ use Rattle.pack.specs.View.{poolsIn}
 use Rattle.route.specs.Widths.{invocationWidth, transferWidth, legWidth, actionWidth}
 use Rattle.route.specs.declared.Answer.{Answer}
 use Rattle.route.specs.Arrays.{itemAt, FillsEach}
-use Rattle.route.specs.Known.{Holds, Fills, Counts, Numbers}
+use Rattle.route.specs.Known.{Holds, Fills, Numbers}
 use Rattle.route.specs.Lay.{rowsOf, placed}
 use Rattle.route.specs.Program.{Programs}
-use Rattle.route.specs.Transfers.{transferRows}
+use Rattle.route.specs.Transfers.{transferRows, reasonsOf}
 use Rattle.route.specs.Legs.{legRowsIn}
 use Rattle.route.specs.Actions.{actionRows}
 use Rattle.route.specs.Tables.{invocationAt}
@@ -64,15 +65,15 @@ pub record Kept (o0 o1 o2 o3 o4 t0 t1 t2 t3 t4 : List ℕ) : Type 0 where
   pub natives : length o4 ≡ length t4
 
 -- what the steps of `fill` promise once the mints are inferred: transfers, legs, actions, the rows of table 1, the answer
-pub record Steps (names p ms at programs outer inner height : List ℕ) (n room m passes : ℕ) (r : Answer) (t0 t1 t2 t3 t4 o0 o1 o2 o3 o4 moved leg : List ℕ) (c2 c3 c4 tests : ℕ) : Type 0 where
+pub record Steps (names p ms at programs outer inner height : List ℕ) (n room m passes : ℕ) (r : Answer) (t0 t1 t2 t3 t4 o0 o1 o2 o3 o4 reasons leg : List ℕ) (c2 c3 c4 tests : ℕ) : Type 0 where
   pub few : n ≤ 1024
   pub known : Programs (sectionOf p 0) (itemAt p at) n programs
   pub transfers : Fills ms p at (transferRows (sectionOf p 0)) transferWidth n c2 t2 o2
-  pub moves : Counts ms p at (transferRows (sectionOf p 0)) n (zeros 1024) moved
+  pub reasoned : reasons ≡ sets (zeros 1024) 0 (reasonsOf p at n)
   pub legs : Fills ms p at (legRowsIn names p) legWidth n c3 t3 o3
   pub numbers : Numbers ms p at (legRowsIn names p) n (zeros 1024) leg
   pub actions : Fills ms p at (actionRows (sectionOf p 0)) actionWidth n c4 t4 o4
-  pub rows : FillsEach (positions outer inner height n) programs moved leg tests t1 o1
+  pub rows : FillsEach (positions outer inner height n) programs reasons leg tests t1 o1
   pub answer :
       r ≡ fits (lent o0 o1 o2 o3 o4) room (record {
         number = 0;
@@ -107,25 +108,25 @@ pub record Finished (names p at outer inner height : List ℕ) (n room m passes 
   pub legs : o3 ≡ placed legWidth 0 (rowsOf (legRowsIn names p table) 0 (tab (itemAt p at) 0 n)) t3
   pub natives : o4 ≡ placed actionWidth 0 (rowsOf (actionRows (sectionOf p 0) table) 0 (tab (itemAt p at) 0 n)) t4
 
-pub finished : {names p ms at programs outer inner height : List ℕ} {n room m passes : ℕ} {r : Answer} {t0 t1 t2 t3 t4 o0 o1 o2 o3 o4 moved leg : List ℕ} {c2 c3 c4 tests : ℕ}
-    → Steps names p ms at programs outer inner height n room m passes r t0 t1 t2 t3 t4 o0 o1 o2 o3 o4 moved leg c2 c3 c4 tests
+pub finished : {names p ms at programs outer inner height : List ℕ} {n room m passes : ℕ} {r : Answer} {t0 t1 t2 t3 t4 o0 o1 o2 o3 o4 reasons leg : List ℕ} {c2 c3 c4 tests : ℕ}
+    → Steps names p ms at programs outer inner height n room m passes r t0 t1 t2 t3 t4 o0 o1 o2 o3 o4 reasons leg c2 c3 c4 tests
     → (table : List MintRow) → Holds ms (sectionOf p 0) table
     → Finished names p at outer inner height n room m passes (lent t0 t1 t2 t3 t4) table r t1 t2 t3 t4 o1 o2 o3 o4
-finished {names} {p} {at = at} {programs} {outer} {inner} {height} {n = n} {moved = moved} {leg} s table h =
+finished {names} {p} {at = at} {programs} {outer} {inner} {height} {n = n} {reasons = reasons} {leg} s table h =
     record {
       answer =
           s .answer
           ∙ rw (s .kept .mints, s .kept .invocations, s .kept .transfers, s .kept .legs, s .kept .natives, s .transfers .counted table h, s .legs .counted table h, s .actions .counted table h, s .rows .tests);
-      invocations = s .rows .rows ∙ rw (rows-are names (sectionOf p 0) p (poolsIn (sectionOf p 4)) table n at programs outer inner height moved leg gathered);
+      invocations = s .rows .rows ∙ rw (rows-are names (sectionOf p 0) p (poolsIn (sectionOf p 4)) table n at programs outer inner height reasons leg gathered);
       transfers = s .transfers .rows table h;
       legs = s .legs .rows table h;
       natives = s .actions .rows table h;
     }
   where
-    gathered : ArraysGathered names (sectionOf p 0) p (poolsIn (sectionOf p 4)) table n at programs moved leg
+    gathered : ArraysGathered names (sectionOf p 0) p (poolsIn (sectionOf p 4)) table n at programs reasons leg
     gathered =
         record {
           known = s .known;
-          moves = λ i l. array-at (zeros 1024) moved _ n i (s .moves .each table h) (s .few) l;
+          reasoned = λ i l. array-at (zeros 1024) reasons _ n i (s .reasoned) (s .few) l;
           numbers = λ i l. array-at (zeros 1024) leg _ n i (s .numbers .each table h) (s .few) l;
         }

@@ -17,7 +17,7 @@ use Rattle.pack.specs.Sections.{sectionOf}
 use Rattle.evidence.specs.MintTable.{MintRow}
 use Rattle.route.specs.declared.candidate.Candidate.{Candidate}
 use Rattle.route.specs.Arrays.{itemAt}
-use Rattle.route.specs.Known.{Puts, Fills, Counts, rowNumberAt, Numbers}
+use Rattle.route.specs.Known.{Puts, Fills, rowNumberAt, Numbers}
 use Rattle.route.specs.Lay.{rowsOf, placed}
 
 -- one number more
@@ -90,19 +90,6 @@ module _ (ms p at : List ℕ) (f : List MintRow → ℕ → Instruction → List
         few = omega arith;
         counted = λ table h. count-more (f table) (itemAt p at) i k r (a .counted table h) (b .counted table h);
         rows = λ table h. rows-more (f table) (itemAt p at) i w t₀ t u k (a .rows table h) (a .counted table h) (b .rows table h);
-      }
-
-  pub counts-none : (t : List ℕ) → Counts ms p at f 0 t t
-  unfolding tab
-  counts-none t = record { each = λ table h. refl }
-
-  pub counts-more : (id : Id) (w i k r : ℕ) (t u : List ℕ) (a₀ a : List ℕ)
-      → Counts ms p at f i a₀ a
-      → Puts ms (sectionOf p 0) p f w (candidate at id i k) r t u
-      → Counts ms p at f (i + 1) a₀ (set a i r)
-  counts-more id w i k r t u a₀ a c b =
-      record {
-        each = λ table h. rw (b .counted table h) (array-more (λ j. length (f table j (itemAt p at j))) i a₀ a (c .each table h));
       }
 
   pub numbers-none : (t : List ℕ) → Numbers ms p at f 0 t t

@@ -105,4 +105,4 @@ module _ (ks : List ℕ) {table : List MintRow} (s : Sound table) where
 -- the rows of table 1
 pub invocations-rowed : (names ks : List ℕ) (pools : List Key) (table : List MintRow) (ps : List Position) (xs : List Instruction) → Rowed invocationWidth (tab (invocationAt names ks pools table ps xs) 0 (length xs))
 unfolding invocationAt
-invocations-rowed names ks pools table ps xs = tab-rowed invocationWidth (invocationAt names ks pools table ps xs) (λ i. row-length _ _ _ _ _) 0 (length xs)
+invocations-rowed names ks pools table ps xs = tab-rowed invocationWidth (invocationAt names ks pools table ps xs) (λ i. row-length _ _ _ _ _ _) 0 (length xs)

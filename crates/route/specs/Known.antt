@@ -54,10 +54,6 @@ pub record Fills (ms p at : List ℕ) (f : List MintRow → ℕ → Instruction 
   -- they stand in the table, one after the other
   pub rows : (table : List MintRow) → Holds ms (sectionOf p 0) table → after ≡ placed w 0 (rowsOf (f table) 0 (tab (itemAt p at) 0 n)) before
 
--- an array then holds how many rows each instruction has
-pub record Counts (ms p at : List ℕ) (f : List MintRow → ℕ → Instruction → List (List ℕ)) (n : ℕ) (before after : List ℕ) : Type 0 where
-  pub each : (table : List MintRow) → Holds ms (sectionOf p 0) table → after ≡ sets before 0 (tab (λ i. length (f table i (itemAt p at i))) 0 n)
-
 -- the number of invocation i's row among those that f makes of the instructions x: 0 where it has none, else 1 plus the rows before it
 unfoldable pub rowNumberAt : (ℕ → Instruction → List (List ℕ)) → (ℕ → Instruction) → ℕ → ℕ
 rowNumberAt f x i = length (f i (x i)) * suc (length (rowsOf f 0 (tab x 0 i)))

@@ -8,14 +8,14 @@ use Rattle.pack.specs.Invocation.{Position}
 
 -- the bytes of a row
 abbrev pub invocationWidth : ℕ
-invocationWidth = 27
+invocationWidth = 28
 
 -- an optional number: flag, then four bytes
 unfoldable pub flagged : Option ℕ → List ℕ
 flagged none = 0 ∷ leBytes 4 0
 flagged (some x) = 1 ∷ leBytes 4 x
 
--- position, end, bits, leg, parent
-unfoldable pub invocationRow : Position → ℕ → ℕ → ℕ → ℕ → List ℕ
-invocationRow p end bits leg parent =
-    leBytes 4 (p .outer) ++ flagged (p .inner) ++ flagged (p .height) ++ leBytes 4 end ++ (bits ∷ []) ++ leBytes 4 leg ++ leBytes 4 parent
+-- position, end, bits, leg, parent, and why it gave no transfer
+unfoldable pub invocationRow : Position → ℕ → ℕ → ℕ → ℕ → ℕ → List ℕ
+invocationRow p end bits leg parent reason =
+    leBytes 4 (p .outer) ++ flagged (p .inner) ++ flagged (p .height) ++ leBytes 4 end ++ (bits ∷ []) ++ leBytes 4 leg ++ leBytes 4 parent ++ (reason ∷ [])

@@ -17,7 +17,7 @@ use Rattle.route.specs.Known.{present}
 use Rattle.route.specs.Lay.{rowsOf}
 use Rattle.route.specs.Program.{programOf, programBits}
 use Rattle.route.specs.Row.{invocationRow}
-use Rattle.route.specs.Transfers.{transferOf, transferRows}
+use Rattle.route.specs.Transfers.{transferOf, transferRows, reasonIn}
 use Rattle.route.specs.Legs.{legOf, legRows}
 use Rattle.route.specs.Actions.{actionRows}
 
@@ -52,7 +52,7 @@ module _ (names ks : List ℕ) (pools : List Key) (table : List MintRow) where
 
   -- row i of table 1: ps are the positions of the instructions xs
   unfoldable pub invocationAt : List Position → List Instruction → ℕ → List ℕ
-  invocationAt ps xs i = invocationRow (positionIn ps i) (endOf ps i) (insideOf ps (map ownOf xs) i + flagsOf (item xs i)) (legNumber xs i) (parentOf ps i)
+  invocationAt ps xs i = invocationRow (positionIn ps i) (endOf ps i) (insideOf ps (map ownOf xs) i + flagsOf (item xs i)) (legNumber xs i) (parentOf ps i) (reasonIn ks (item xs i))
 
 -- all tables, once the mints are known
 unfoldable pub tablesWith : List ℕ → List ℕ → List Key → List Position → List Instruction → MintAnswer → Tables

@@ -13,7 +13,7 @@ use Rattle.ids.specs.declared.Id.the-variants.{PumpFun, LaunchLab, PumpSwap, Cp
 use Rattle.pack.specs.View.{View}
 use Rattle.wire.specs.Tab.{tab}
 use Rattle.route.specs.MarkedCases.{key, keysWith, keysFor, calls, saying, bare, family, X, Y}
-use Rattle.route.specs.WorkedForm.{Shown, mints-are, invocations-are, transfers-are, legs-are, natives-are, bits-are, answers, row, first, second, standard, reward, swapBaseIn, splToken, token2022, wrappedSol}
+use Rattle.route.specs.WorkedForm.{Shown, mints-are, invocations-are, transfers-are, legs-are, natives-are, bits-are, reasons-are, answers, row, first, second, standard, reward, swapBaseIn, splToken, token2022, wrappedSol}
 use Rattle.route.specs.WorkedLegs.{legCases, swapV2, sellExactIn, buyExactIn, buyV3, sellV3, buyV2, sellV2, sellBytes, workedLegRow, parties, mintPair, pairOfAccounts, exactIn, exactOut, exchanged, numbers, directed}
 
 -- table 0: account at 0, mint at 32, mark at 64
@@ -41,10 +41,10 @@ beyond =
     (calls 4 (2 ∷ 0 ∷ 1 ∷ []) (3 ∷ first) ∷ calls 4 (0 ∷ 1 ∷ 2 ∷ []) (3 ∷ first) ∷ [])
     []
 
--- table 1: outer at 0, inner after its flag at 4, height after its flag at 9, end at 14, bits at 18, leg at 19, parent at 23
-abbrev pub invoked : ℕ → List ℕ → List ℕ → ℕ → ℕ → ℕ → ℕ → List ℕ
-invoked outer inner height end bits shownLeg parent =
-    row 27 ((0, outer ∷ []) ∷ (4, inner) ∷ (9, height) ∷ (14, end ∷ []) ∷ (18, bits ∷ []) ∷ (19, shownLeg ∷ []) ∷ (23, parent ∷ []) ∷ [])
+-- table 1: outer at 0, inner after its flag at 4, height after its flag at 9, end at 14, bits at 18, leg at 19, parent at 23, reason at 27
+abbrev pub invoked : ℕ → List ℕ → List ℕ → ℕ → ℕ → ℕ → ℕ → ℕ → List ℕ
+invoked outer inner height end bits shownLeg parent because =
+    row 28 ((0, outer ∷ []) ∷ (4, inner) ∷ (9, height) ∷ (14, end ∷ []) ∷ (18, bits ∷ []) ∷ (19, shownLeg ∷ []) ∷ (23, parent ∷ []) ∷ (27, because ∷ []) ∷ [])
 
 -- an unknown program calls AMM V4, which calls SPL Token at a height of four bytes; a program that no key has; AMM V4 again
 abbrev pub nested : View
@@ -73,6 +73,25 @@ payments =
     ∷ calls 17 (5 ∷ 6 ∷ 7 ∷ []) (3 ∷ first)
     ∷ calls 17 (8 ∷ 9 ∷ 10 ∷ 11 ∷ []) (12 ∷ first ++ (9 ∷ []))
     ∷ calls 17 (12 ∷ 13 ∷ 14 ∷ 15 ∷ []) (26 ∷ 1 ∷ first ++ (20 ∷ []) ++ second)
+    ∷ [])
+    []
+
+-- a transfer; another program, and one that no key has; no data, and tag 26 under SPL Token and Token-2022; an account too few, and none too few; data too
+-- short; the destination, and the mint of a checked transfer, no key
+abbrev pub explained : View
+explained =
+    saying (keysWith 4 (splToken ∷ token2022 ∷ key 100 ∷ [])) []
+    (calls 4 (0 ∷ 1 ∷ 2 ∷ []) (3 ∷ first)
+    ∷ calls 6 (0 ∷ 1 ∷ 2 ∷ []) (3 ∷ first)
+    ∷ calls 99 (0 ∷ 1 ∷ 2 ∷ []) (3 ∷ first)
+    ∷ calls 4 (0 ∷ 1 ∷ 2 ∷ []) []
+    ∷ calls 4 (0 ∷ 1 ∷ 2 ∷ 3 ∷ []) (26 ∷ 1 ∷ first ++ (20 ∷ []) ++ second)
+    ∷ calls 5 (0 ∷ 1 ∷ 2 ∷ 3 ∷ []) (26 ∷ 1 ∷ first ++ (20 ∷ []) ++ second)
+    ∷ calls 4 (0 ∷ 1 ∷ []) (3 ∷ [])
+    ∷ calls 4 (0 ∷ 1 ∷ 2 ∷ []) (3 ∷ [])
+    ∷ calls 5 (0 ∷ 1 ∷ 2 ∷ 3 ∷ []) (26 ∷ 1 ∷ first)
+    ∷ calls 4 (0 ∷ 99 ∷ 2 ∷ []) (3 ∷ first)
+    ∷ calls 5 (0 ∷ 99 ∷ 2 ∷ 3 ∷ []) (12 ∷ first ++ (9 ∷ []))
     ∷ [])
     []
 
@@ -115,29 +134,34 @@ rowCases =
     -- doubt travels the whole chain, and does not pass a recorded account
     ∷ (between, mints-are (heldRow 0 X 0 ∷ heldRow 1 Y 0 ∷ heldRow 2 X 2 ∷ heldRow 3 X 2 ∷ []))
     ∷ (beyond, mints-are (heldRow 0 X 0 ∷ heldRow 1 Y 0 ∷ heldRow 2 X 1 ∷ []))
-    -- table 1: bits 1 + 2 + 8, 1 + 8 + 16, 4 + 8 + 32, none, 8 + 16; legs 1 and 2; a chain of parents, and the next two outers have none
+    -- table 1: bits 1 + 2 + 8, 1 + 8 + 16, 4 + 8 + 32, none, 8 + 16; legs 1 and 2; a chain of parents, and the next two outers have none; the third
+    -- is a transfer, and the others are of no token program
     ∷ (
       nested,
       invocations-are
-          (invoked 0 [] (1 ∷ 1 ∷ []) 3 11 0 0
-          ∷ invoked 0 (1 ∷ 0 ∷ []) (1 ∷ 2 ∷ []) 3 25 1 1
-          ∷ invoked 0 (1 ∷ 1 ∷ []) (1 ∷ 1 ∷ 2 ∷ 3 ∷ 4 ∷ []) 3 44 0 2
-          ∷ invoked 1 [] (1 ∷ 1 ∷ []) 4 0 0 0
-          ∷ invoked 2 [] (1 ∷ 1 ∷ []) 5 24 2 0
+          (invoked 0 [] (1 ∷ 1 ∷ []) 3 11 0 0 1
+          ∷ invoked 0 (1 ∷ 0 ∷ []) (1 ∷ 2 ∷ []) 3 25 1 1 1
+          ∷ invoked 0 (1 ∷ 1 ∷ []) (1 ∷ 1 ∷ 2 ∷ 3 ∷ 4 ∷ []) 3 44 0 2 0
+          ∷ invoked 1 [] (1 ∷ 1 ∷ []) 4 0 0 0 1
+          ∷ invoked 2 [] (1 ∷ 1 ∷ []) 5 24 2 0 1
           ∷ []),
     )
     -- equal heights are no descent: the first inner one's block is empty, and both have the outer one as parent
     ∷ (
       family (some 2),
       invocations-are
-          (invoked 0 [] (1 ∷ 1 ∷ []) 3 0 0 0
-          ∷ invoked 0 (1 ∷ 0 ∷ []) (1 ∷ 2 ∷ []) 2 0 0 1
-          ∷ invoked 0 (1 ∷ 1 ∷ []) (1 ∷ 2 ∷ []) 3 0 0 1
+          (invoked 0 [] (1 ∷ 1 ∷ []) 3 0 0 0 1
+          ∷ invoked 0 (1 ∷ 0 ∷ []) (1 ∷ 2 ∷ []) 2 0 0 1 1
+          ∷ invoked 0 (1 ∷ 1 ∷ []) (1 ∷ 2 ∷ []) 3 0 0 1 1
           ∷ []),
     )
     -- passed over are the token programs, Compute Budget, Associated Token, Memo and System, and not wrapped SOL, the eight protocols and another key;
     -- what is not resolved has no bits
     ∷ (programs, bits-are (12 ∷ 12 ∷ 8 ∷ 12 ∷ 12 ∷ 12 ∷ 8 ∷ 8 ∷ 8 ∷ 8 ∷ 8 ∷ 8 ∷ 8 ∷ 8 ∷ 12 ∷ 8 ∷ 0 ∷ 0 ∷ 0 ∷ []))
+    -- why there is no transfer: of no token program, unsupported tag, too few accounts, data too short, zero key
+    ∷ (explained, reasons-are (0 ∷ 1 ∷ 1 ∷ 2 ∷ 2 ∷ 0 ∷ 3 ∷ 4 ∷ 4 ∷ 5 ∷ 5 ∷ []))
+    -- without data a token program's instruction has no tag; what is not resolved is of no token program
+    ∷ (programs, reasons-are (2 ∷ 2 ∷ replicate 17 1))
     -- table 2: fee 0, fee 0, not known, not known, named; the third one's mint is absent
     ∷ (
       payments,
@@ -190,7 +214,7 @@ rowCases =
 unfoldable pub keyCases : List (View × Shown)
 keyCases = (keyed 256, answers 0 0) ∷ (keyed 257, answers 5 0) ∷ []
 
--- 19 invocations have room in the 513 bytes of table 1, 20 have not
+-- 19 invocations have room in the 559 bytes of table 1, 20 have not
 unfoldable pub roomCases : List (View × Shown)
 roomCases = (outers 19, answers 0 0) ∷ (outers 20, answers 8 1) ∷ []
 

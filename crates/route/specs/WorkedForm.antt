@@ -16,19 +16,20 @@ use Rattle.route.specs.MarkedCases.{key}
 pub data Shown : Type 0 where
   -- the rows of tables 0 to 4, whole
   mints-are invocations-are transfers-are legs-are natives-are : List (List ℕ) → Shown
-  -- in table 1: byte 18 of each row
-  bits-are : List ℕ → Shown
+  -- in table 1: byte 18 of each row, byte 27 of each row
+  bits-are reasons-are : List ℕ → Shown
   -- number and place of the answer
   answers : ℕ → ℕ → Shown
 
 -- the same looked at in what a call leaves
 abbrev pub shown : Routed → Shown → Shown
 shown r (mints-are l) = mints-are (rows 65 (r .answer .mints) (r .mints))
-shown r (invocations-are l) = invocations-are (rows 27 (r .answer .invocations) (r .invocations))
+shown r (invocations-are l) = invocations-are (rows 28 (r .answer .invocations) (r .invocations))
 shown r (transfers-are l) = transfers-are (rows 150 (r .answer .transfers) (r .transfers))
 shown r (legs-are l) = legs-are (rows 250 (r .answer .legs) (r .legs))
 shown r (natives-are l) = natives-are (rows 109 (r .answer .natives) (r .natives))
-shown r (bits-are l) = bits-are (map (λ (x : List ℕ). getD x 18 0) (rows 27 (r .answer .invocations) (r .invocations)))
+shown r (bits-are l) = bits-are (map (λ (x : List ℕ). getD x 18 0) (rows 28 (r .answer .invocations) (r .invocations)))
+shown r (reasons-are l) = reasons-are (map (λ (x : List ℕ). getD x 27 0) (rows 28 (r .answer .invocations) (r .invocations)))
 shown r (answers n k) = answers (r .answer .number) (r .answer .place)
 
 -- the number that the answer then has
@@ -39,6 +40,7 @@ due (transfers-are l) = 0
 due (legs-are l) = 0
 due (natives-are l) = 0
 due (bits-are l) = 0
+due (reasons-are l) = 0
 due (answers n k) = n
 
 -- a row of n bytes: pieces at their offsets, and zeros where none stands
@@ -74,9 +76,9 @@ buy = 102 ∷ 6 ∷ 61 ∷ 18 ∷ 1 ∷ 218 ∷ 235 ∷ 234 ∷ []
 unfoldable pub names : List ℕ
 names = swapBaseIn ++ swapBaseOut ++ buy ++ standard ++ reward
 
--- tables with room for the rows of every case: in table 1 for 19
+-- tables with room for the rows of every case: in table 1 for 19, and for all but a byte of another
 unfoldable pub workedRoom : Lent
-workedRoom = record { mints = 520; invocations = 513; transfers = 750; legs = 500; natives = 327 }
+workedRoom = record { mints = 520; invocations = 559; transfers = 750; legs = 500; natives = 327 }
 
 -- rows of the table of ids
 abbrev pub splToken : Key

@@ -53,12 +53,12 @@ pub(crate) fn fill(
     let Inferred::Made(room, rows, passes) = inferred else {
         return refusal(7, 0);
     };
-    let mut moved = [0u8; 1024];
-    let transfers = transfers::put_rows(pack, n, &at, &programs, &known, t2, &mut moved);
+    let mut reasons = [0u8; 1024];
+    let transfers = transfers::put_rows(pack, n, &at, &programs, &known, t2, &mut reasons);
     let mut leg = [0u32; 1024];
     let legs = legs::put_rows(names, pack, n, &at, &programs, &known, t3, &mut leg);
     let natives = actions::put_rows(pack, n, &at, &programs, &known, t4);
-    let tests = invocations::put_rows(n, &outer, &inner, &height, &programs, &moved, &leg, t1);
+    let tests = invocations::put_rows(n, &outer, &inner, &height, &programs, &reasons, &leg, t1);
     fit(
         t0.len(),
         t1.len(),

@@ -11,7 +11,7 @@ ghost use Rattle.route.specs.Program.{programBits};
 ghost use Rattle.route.specs.Row.{flagged as flaggedOf, invocationRow};
 
 // The bytes of a row.
-pub(crate) const WIDTH: usize = 27;
+pub(crate) const WIDTH: usize = 28;
 
 // The bits that a program's case gives: 4 where a route passes over it, 8 where it is resolved.
 fn program_bits(id: Id) -> u8
@@ -63,8 +63,9 @@ fn put_row(
     bits: u8,
     leg: u32,
     parent: u32,
+    reason: u8,
 )
-    ensures { λ _. ⌜ now (out .exit) ≡ sets (now (out .entry)) at (invocationRow (positionOf outer inner height) end bits leg parent) ⌝ }
+    ensures { λ _. ⌜ now (out .exit) ≡ sets (now (out .entry)) at (invocationRow (positionOf outer inner height) end bits leg parent reason) ⌝ }
 {
     let mut row = [0u8; WIDTH];
     wire::put_u32(&mut row, 0, outer);
@@ -74,49 +75,50 @@ fn put_row(
     wire::put_byte(&mut row, 18, bits);
     wire::put_u32(&mut row, 19, leg);
     wire::put_u32(&mut row, 23, parent);
+    wire::put_byte(&mut row, 27, reason);
     wire::put(out, at, &row);
 }
 
-// The bits of what an invocation has itself.
-fn own_bits(moved: u8, leg: u32) -> u8
-    ensures { λ r. ⌜ r ≡ ownBits moved leg ⌝ }
+// The bits of what an invocation has itself: reason 0 is a transfer.
+fn own_bits(reason: u8, leg: u32) -> u8
+    ensures { λ r. ⌜ r ≡ ownBits reason leg ⌝ }
 {
     if leg == 0 {
-        if moved == 0 {
-            return 0;
+        if reason == 0 {
+            return 32;
         }
-        return 32;
+        return 0;
     }
-    if moved == 0 {
-        return 16;
+    if reason == 0 {
+        return 48;
     }
-    48
+    16
 }
 
 // What an invocation has itself, for those around it: 1 a transfer, 2 a leg.
-fn own_for(moved: u8, leg: u32) -> u8
-    ensures { λ r. ⌜ r ≡ ownFor moved leg ⌝ }
+fn own_for(reason: u8, leg: u32) -> u8
+    ensures { λ r. ⌜ r ≡ ownFor reason leg ⌝ }
 {
-    if moved == 0 {
+    if reason == 0 {
         if leg == 0 {
-            return 0;
+            return 1;
         }
-        return 2;
+        return 3;
     }
     if leg == 0 {
-        return 1;
+        return 0;
     }
-    3
+    2
 }
 
 // The same for n invocations.
-fn put_own(n: usize, moved: &[u8; 1024], leg: &[u32; 1024], own: &mut [u8; 1024])
+fn put_own(n: usize, reasons: &[u8; 1024], leg: &[u32; 1024], own: &mut [u8; 1024])
     requires { ⌜ n ≤ 1024 ⌝ }
-    ensures { λ _. ⌜ now (own .exit) ≡ sets (now (own .entry)) 0 (ownsOf (now (moved .entry)) (now (leg .entry)) n) ⌝ }
+    ensures { λ _. ⌜ now (own .exit) ≡ sets (now (own .entry)) 0 (ownsOf (now (reasons .entry)) (now (leg .entry)) n) ⌝ }
 {
     let mut i = 0;
     while i < n {
-        own[i] = own_for(moved[i], leg[i]);
+        own[i] = own_for(reasons[i], leg[i]);
         i += 1;
     }
 }
@@ -132,33 +134,33 @@ pub(crate) fn wide(x: u32) -> usize
 fn bits(
     programs: &[u8; 1024],
     inside: &[u8; 1024],
-    moved: &[u8; 1024],
+    reasons: &[u8; 1024],
     leg: &[u32; 1024],
     i: usize,
 ) -> u8
     requires { ⌜ (i < 1024) × (getD (now inside) i 0 ≤ 3) ⌝ }
-    ensures { λ r. ⌜ r ≡ bitsAt (now (programs .entry)) (now (inside .entry)) (now (moved .entry)) (now (leg .entry)) i ⌝ }
+    ensures { λ r. ⌜ r ≡ bitsAt (now (programs .entry)) (now (inside .entry)) (now (reasons .entry)) (now (leg .entry)) i ⌝ }
 {
-    inside[i] + program_bits(ids::of_number(programs[i])) + own_bits(moved[i], leg[i])
+    inside[i] + program_bits(ids::of_number(programs[i])) + own_bits(reasons[i], leg[i])
 }
 
-// The rows of the n invocations, by how many transfers and which leg each has. Answers the calls of `descendant`.
+// The rows of the n invocations, by why each has no transfer, if it has none, and which leg. Answers the calls of `descendant`.
 pub(crate) fn put_rows(
     n: usize,
     outer: &[u32; 1024],
     inner: &[u32; 1024],
     height: &[u64; 1024],
     programs: &[u8; 1024],
-    moved: &[u8; 1024],
+    reasons: &[u8; 1024],
     leg: &[u32; 1024],
     out: &mut [u8],
 ) -> u32
     requires { ⌜ n ≤ 1024 ⌝ }
     ensures { λ r. ⌜ FillsEach (positions (now (outer .entry)) (now (inner .entry)) (now (height .entry)) n)
-        (now (programs .entry)) (now (moved .entry)) (now (leg .entry)) r (now (out .entry)) (now (out .exit)) ⌝ }
+        (now (programs .entry)) (now (reasons .entry)) (now (leg .entry)) r (now (out .entry)) (now (out .exit)) ⌝ }
 {
     let mut own = [0u8; 1024];
-    put_own(n, moved, leg, &mut own);
+    put_own(n, reasons, leg, &mut own);
     let mut ends = [0u32; 1024];
     let mut inside = [0u8; 1024];
     let mut parents = [0u32; 1024];
@@ -174,7 +176,7 @@ pub(crate) fn put_rows(
     );
     let mut i = 0;
     while i < n {
-        let b = bits(programs, &inside, moved, leg, i);
+        let b = bits(programs, &inside, reasons, leg, i);
         put_row(
             out,
             i * WIDTH,
@@ -185,6 +187,7 @@ pub(crate) fn put_rows(
             b,
             leg[i],
             parents[i],
+            reasons[i],
         );
         i += 1;
     }

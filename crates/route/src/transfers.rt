@@ -9,10 +9,11 @@ ghost use lib.ListN.{length};
 ghost use Rattle.pack.specs.Invocation.{instructionAt};
 ghost use Rattle.pack.specs.Sections.{sectionOf};
 ghost use Rattle.route.specs.Widths.{transferWidth};
+ghost use lib.Seq.{sets};
 ghost use Rattle.route.specs.Arrays.{itemAt};
-ghost use Rattle.route.specs.Known.{knownMint, Puts, Fills, Counts};
+ghost use Rattle.route.specs.Known.{knownMint, Puts, Fills};
 ghost use Rattle.route.specs.Program.{programOf, Programs};
-ghost use Rattle.route.specs.Transfers.{transferRows, movedCount};
+ghost use Rattle.route.specs.Transfers.{transferRows, reasonIn, reasonsOf, rowsFor};
 
 // The final mint of a key index: 32 bytes, zero where it has none.
 pub(crate) fn mint(mints: &[u8], index: u8) -> &[u8]
@@ -23,27 +24,24 @@ pub(crate) fn mint(mints: &[u8], index: u8) -> &[u8]
     &mints[at..at + 32]
 }
 
-// How many transfers there are: one, or none.
-fn count(moved: Moved) -> u8
-    ensures { λ r. ⌜ r ≡ movedCount moved ⌝ }
+// How many rows there are: one for a transfer, which is reason 0, else none.
+fn rows(reason: u8) -> usize
+    ensures { λ r. ⌜ r ≡ rowsFor reason ⌝ }
 {
-    match moved {
-        Moved::Nothing => 0,
-        Moved::FeeUnknown(_, _, _) => 1,
-        Moved::FeeKnown(_, _, _, _) => 1,
-    }
+    if reason == 0 { 1 } else { 0 }
 }
 
-// Writes the row of a candidate, if it gives a transfer. Answers how many rows that is.
+// Writes the row of a candidate, if it gives a transfer. Answers why it gives none, or 0.
 fn put_one(keys: &[u8], pack: &[u8], mints: &[u8], x: Candidate, out: &mut [u8]) -> u8
     requires { ⌜ (length (now mints) ≡ 8192) × (x .row < 1024) × (x .program ≡ programOf (now keys) (instructionAt (now pack) (x .at))) ⌝ }
-    ensures { λ r. ⌜ Puts (now (mints .entry)) (now (keys .entry)) (now (pack .entry)) (transferRows (now (keys .entry))) transferWidth x r
+    ensures { λ r. ⌜ r ≡ reasonIn (now (keys .entry)) (instructionAt (now (pack .entry)) (x .at)) ⌝ }
+    ensures { λ r. ⌜ Puts (now (mints .entry)) (now (keys .entry)) (now (pack .entry)) (transferRows (now (keys .entry))) transferWidth x (rowsFor r)
         (now (out .entry)) (now (out .exit)) ⌝ }
 {
     // No other program gives a transfer, so its accounts and data are not read.
     let id = x.program;
     if !token::token_program(id) {
-        return 0;
+        return token::reason(Moved::NotToken);
     }
     let moved = token::transfer(id, keys, pack::accounts(pack, x.at), pack::data(pack, x.at));
     token::row::put_row(
@@ -55,10 +53,10 @@ fn put_one(keys: &[u8], pack: &[u8], mints: &[u8], x: Candidate, out: &mut [u8])
         moved,
         mint(mints, token::source(moved)),
     );
-    count(moved)
+    token::reason(moved)
 }
 
-// The rows of the n invocations; `moved` holds how many each has. Answers how many there are.
+// The rows of the n invocations; `reasons` holds why each has none, or 0. Answers how many there are.
 pub(crate) fn put_rows(
     pack: &[u8],
     n: usize,
@@ -66,13 +64,12 @@ pub(crate) fn put_rows(
     programs: &[u8; 1024],
     mints: &[u8],
     out: &mut [u8],
-    moved: &mut [u8; 1024],
+    reasons: &mut [u8; 1024],
 ) -> usize
     requires { ⌜ (n ≤ 1024) × (length (now mints) ≡ 8192) × Programs (sectionOf (now pack) 0) (itemAt (now pack) (now at)) n (now programs) ⌝ }
     ensures { λ c. ⌜ Fills (now (mints .entry)) (now (pack .entry)) (now (at .entry)) (transferRows (sectionOf (now (pack .entry)) 0)) transferWidth n c
         (now (out .entry)) (now (out .exit)) ⌝ }
-    ensures { λ _. ⌜ Counts (now (mints .entry)) (now (pack .entry)) (now (at .entry)) (transferRows (sectionOf (now (pack .entry)) 0)) n
-        (now (moved .entry)) (now (moved .exit)) ⌝ }
+    ensures { λ _. ⌜ now (reasons .exit) ≡ sets (now (reasons .entry)) 0 (reasonsOf (now (pack .entry)) (now (at .entry)) n) ⌝ }
 {
     let keys = pack::section(pack, 0);
     let mut k = 0;
@@ -85,8 +82,8 @@ pub(crate) fn put_rows(
             row: k,
         };
         let r = put_one(keys, pack, mints, x, out);
-        moved[i] = r;
-        k += wide(r as u32);
+        reasons[i] = r;
+        k += rows(r);
         i += 1;
     }
     k

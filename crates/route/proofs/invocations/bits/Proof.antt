@@ -47,7 +47,7 @@ add-result-2 c =
       c .own-bits .ensures,
       c .before .before .before .program-bits .ensures,
       programBits-le (c .before .before .before .before .of-number .result),
-      ownBits-le (getD (c .before .before .before .before .before .before .before .args .moved .now) (c .before .before .before .before .before .before .before .args .i) 0) (getD (c .before .before .before .before .before .before .before .args .leg .now) (c .before .before .before .before .before .before .before .args .i) 0),
+      ownBits-le (getD (c .before .before .before .before .before .before .before .args .reasons .now) (c .before .before .before .before .before .before .before .args .i) 0) (getD (c .before .before .before .before .before .before .before .args .leg .now) (c .before .before .before .before .before .before .before .args .i) 0),
       c .before .before .before .before .before .before .before .pre .1,
     )
 

@@ -13,10 +13,10 @@ use Rattle.route.proofs.invocations.put_own.Lts as lts
 use Rattle.route.proofs.invocations.own_for.Reads as own-for-reads
 
 abbrev Inv-loop : tie.InvT-loop
-Inv-loop n moved leg own₀ i₀ own i = (i ≤ n) × (own ≡ sets own₀ 0 (tab (ownAt moved leg) 0 i))
+Inv-loop n reasons leg own₀ i₀ own i = (i ≤ n) × (own ≡ sets own₀ 0 (tab (ownAt reasons leg) 0 i))
 
 abbrev μ-loop : tie.MeasureT-loop
-μ-loop n moved leg own₀ i₀ own i = n - i
+μ-loop n reasons leg own₀ i₀ own i = n - i
 
 loop-holds : tie.Need-loop-holds Inv-loop μ-loop
 unfolding tab
@@ -48,7 +48,7 @@ unfolding ownAt
 loop-again c =
     let l = c .before .before .before .before .loop in
     let a = c .before .before .before .before .before .args in
-    (omega arith, rw (c .own-for .ensures) (array-more (ownAt (a .moved .now) (a .leg .now)) (l .i) (a .own .now) (l .own) (l .inv .1)))
+    (omega arith, rw (c .own-for .ensures) (array-more (ownAt (a .reasons .now) (a .leg .now)) (l .i) (a .own .now) (l .own) (l .inv .1)))
 
 returns : tie.Need-returns Inv-loop μ-loop
 returns c =

@@ -1,4 +1,4 @@
--- The seven fields are stored one behind the other, and fill the row.
+-- The eight fields are stored one behind the other, and fill the row.
 use Rattle.route.proofs.Row.{fields}
 use Rattle.pack.specs.Invocation.{lowered}
 use Rattle.wire.specs.Zeros.{zeros}
@@ -57,6 +57,12 @@ slice-aggregate-put-u32-4 c = search needs
 put-u32-requires-4 : tie.Need-put-u32-requires-4
 put-u32-requires-4 c κs = search needs
 
+slice-aggregate-put-byte-2 : tie.Need-slice-aggregate-put-byte-2
+slice-aggregate-put-byte-2 c = search needs
+
+put-byte-requires-2 : tie.Need-put-byte-requires-2
+put-byte-requires-2 c κs = search needs
+
 slice-aggregate-put : tie.Need-slice-aggregate-put
 slice-aggregate-put c = search needs
 
@@ -68,18 +74,19 @@ same-length c = search needs
 
 returns : tie.Need-returns
 returns c =
-    let a = c .before .before .before .before .before .before .before .before .before .before .before .before .before .before .before .before .before .before .before .before .before .before .before .before .before .before .before .args in
+    let a = c .before .before .before .before .before .before .before .before .before .before .before .before .before .before .before .before .before .before .before .before .before .before .before .before .before .before .before .before .before .before .args in
     rw (
       c .before .before .put .ensures,
-      c .before .before .before .before .before .before .put-u324 .ensures,
-      c .before .before .before .before .before .before .before .before .before .put-u323 .ensures,
-      c .before .before .before .before .before .before .before .before .before .before .before .before .put-byte .ensures,
-      c .before .before .before .before .before .before .before .before .before .before .before .before .before .before .before .put-u322 .ensures,
-      c .before .before .before .before .before .before .before .before .before .before .before .before .before .before .before .before .before .before .put-flagged2 .ensures,
-      c .before .before .before .before .before .before .before .before .before .before .before .before .before .before .before .before .before .before .before .before .before .put-flagged .ensures,
-      c .before .before .before .before .before .before .before .before .before .before .before .before .before .before .before .before .before .before .before .before .before .before .before .before .put-u32 .ensures,
+      c .before .before .before .before .before .before .put-byte2 .ensures,
+      c .before .before .before .before .before .before .before .before .before .put-u324 .ensures,
+      c .before .before .before .before .before .before .before .before .before .before .before .before .put-u323 .ensures,
+      c .before .before .before .before .before .before .before .before .before .before .before .before .before .before .before .put-byte .ensures,
+      c .before .before .before .before .before .before .before .before .before .before .before .before .before .before .before .before .before .before .put-u322 .ensures,
+      c .before .before .before .before .before .before .before .before .before .before .before .before .before .before .before .before .before .before .before .before .before .put-flagged2 .ensures,
+      c .before .before .before .before .before .before .before .before .before .before .before .before .before .before .before .before .before .before .before .before .before .before .before .before .put-flagged .ensures,
+      c .before .before .before .before .before .before .before .before .before .before .before .before .before .before .before .before .before .before .before .before .before .before .before .before .before .before .before .put-u32 .ensures,
     )
-    (ap (sets (a .out .now) (a .at)) (fields (zeros invocationWidth) (record { outer = a .outer; inner = lowered (a .inner); height = lowered (a .height) }) (a .end) (a .bits) (a .leg) (a .parent) refl))
+    (ap (sets (a .out .now) (a .at)) (fields (zeros invocationWidth) (record { outer = a .outer; inner = lowered (a .inner); height = lowered (a .height) }) (a .end) (a .bits) (a .leg) (a .parent) (a .reason) refl))
 
 pub put-row-spec : {M : Type 1} → statement M
 put-row-spec =
@@ -99,6 +106,8 @@ put-row-spec =
     put-u32-requires-3
     slice-aggregate-put-u32-4
     put-u32-requires-4
+    slice-aggregate-put-byte-2
+    put-byte-requires-2
     slice-aggregate-put
     put-requires
     same-length

@@ -24,11 +24,11 @@ use Rattle.route.proofs.invocations.put_row.Reads as put-row-reads
 use Rattle.subtrees.proofs.subtrees.Reads as subtrees-reads
 
 abbrev Inv-loop : tie.InvT-loop
-Inv-loop n outer inner height programs moved leg out₀ ends inside parents tests i₀ out i =
-    (i ≤ n) × (length out ≡ length out₀) × (out ≡ placed invocationWidth 0 (tab (rowAt (positions outer inner height n) programs moved leg) 0 i) out₀)
+Inv-loop n outer inner height programs reasons leg out₀ ends inside parents tests i₀ out i =
+    (i ≤ n) × (length out ≡ length out₀) × (out ≡ placed invocationWidth 0 (tab (rowAt (positions outer inner height n) programs reasons leg) 0 i) out₀)
 
 abbrev μ-loop : tie.MeasureT-loop
-μ-loop n outer inner height programs moved leg out₀ ends inside parents tests i₀ out i = n - i
+μ-loop n outer inner height programs reasons leg out₀ ends inside parents tests i₀ out i = n - i
 
 put-own-requires : tie.Need-put-own-requires Inv-loop μ-loop
 put-own-requires c κs = c .before .before .pre
@@ -82,6 +82,9 @@ mul-put-row-7 c = omega arith
 array-read-put-row-2 : tie.Need-array-read-put-row-2 Inv-loop μ-loop
 array-read-put-row-2 c = omega arith
 
+element-copy-out-put-row-5 : tie.Need-element-copy-out-put-row-5 Inv-loop μ-loop
+element-copy-out-put-row-5 c = omega arith
+
 put-row-requires : tie.Need-put-row-requires Inv-loop μ-loop
 put-row-requires c κs = tt
 
@@ -98,16 +101,16 @@ blocked outer inner height n few s = rw (taken-all n few) at s
 loop-again : tie.Need-loop-again Inv-loop μ-loop
 unfolding positionAt
 loop-again c =
-    let l = c .before .before .before .before .before .before .before .before .before .before .before .loop in
-    let start = c .before .before .before .before .before .before .before .before .before .before .before .before .before .before .before .before .before .before .before .before in
+    let l = c .before .before .before .before .before .before .before .before .before .before .before .before .loop in
+    let start = c .before .before .before .before .before .before .before .before .before .before .before .before .before .before .before .before .before .before .before .before .before in
     let a = start .args in
     let ps = positions (a .outer .now) (a .inner .now) (a .height .now) (a .n) in
-    let blocks = blocked (a .outer .now) (a .inner .now) (a .height .now) (a .n) (start .pre) (c .before .before .before .before .before .before .before .before .before .before .before .before .subtrees .ensures) in
+    let blocks = blocked (a .outer .now) (a .inner .now) (a .height .now) (a .n) (start .pre) (c .before .before .before .before .before .before .before .before .before .before .before .before .before .subtrees .ensures) in
     let put = c .before .before .put-row in (
       omega arith,
       put .kept .0 ∙ l .inv .1,
-      placed-more invocationWidth (rowAt ps (a .programs .now) (a .moved .now) (a .leg .now)) (l .i) (a .out .now) (l .out) _ (l .inv .2)
-          (put .ensures ∙ rw (c .before .before .before .before .before .before .before .before .bits .ensures, ← (row-by (a .n) _ (a .outer .now) (a .inner .now) (a .height .now) (a .programs .now) (a .moved .now) (a .leg .now) _ _ _ _ (start .pre) (c .before .before .before .before .before .before .before .before .before .before .before .before .before .before .before .before .before .put-own .ensures) blocks (l .i) (omega arith)))),
+      placed-more invocationWidth (rowAt ps (a .programs .now) (a .reasons .now) (a .leg .now)) (l .i) (a .out .now) (l .out) _ (l .inv .2)
+          (put .ensures ∙ rw (c .before .before .before .before .before .before .before .before .before .bits .ensures, ← (row-by (a .n) _ (a .outer .now) (a .inner .now) (a .height .now) (a .programs .now) (a .reasons .now) (a .leg .now) _ _ _ _ (start .pre) (c .before .before .before .before .before .before .before .before .before .before .before .before .before .before .before .before .before .before .put-own .ensures) blocks (l .i) (omega arith)))),
     )
 
 same-length : tie.Need-same-length Inv-loop μ-loop
@@ -144,6 +147,7 @@ put-rows-spec =
     element-copy-out-put-row-4
     mul-put-row-7
     array-read-put-row-2
+    element-copy-out-put-row-5
     put-row-requires
     add-i
     loop-less

@@ -1,12 +1,13 @@
--- What a token program moves is the instruction's transfer, and its row is put with the source's mint; no other program gives one.
+-- What a token program moves is the instruction's transfer, and its row is put with the source's mint, or it says why there is none; no other program gives one.
 use native.Mathlib.Omega.{arith}
-use Rattle.route.proofs.Moving.{count-le, no-transfer, row-counted, row-placed}
+use Rattle.route.proofs.Moving.{rows-le, no-transfer, no-token, row-counted, row-placed}
 use Rattle.route.specs.Known.{knownMint}
 use Rattle.route.specs.Lay.{placed}
 use Rattle.route.specs.Program.{programOf}
-use Rattle.route.specs.Transfers.{transferOf, transferRows}
+use Rattle.route.specs.Transfers.{transferOf, transferRows, reasonIn, rowsFor}
 use Rattle.token.specs.Programs.{isToken}
-use Rattle.token.specs.Moved.{transferValue, sourceBy}
+use Rattle.token.specs.Moved.{transferValue, reasonOf, sourceBy}
+use Rattle.token.specs.Reasons.{reason}
 use Rattle.token.specs.Transfers.{transfer}
 use Rattle.ids.specs.declared.Id.{Id}
 use Rattle.ids.specs.Mints.{mintOf}
@@ -26,8 +27,8 @@ use Rattle.route.proofs.transfers.put_one.Lts as lts
 use Rattle.pack.proofs.accounts.Reads as accounts-reads
 use Rattle.pack.proofs.data.Reads as data-reads
 use Rattle.pack.proofs.program.Reads as program-reads
-use Rattle.route.proofs.transfers.count.Reads as count-reads
 use Rattle.route.proofs.transfers.mint.Reads as mint-reads
+use Rattle.token.proofs.reason.Reads as reason-reads
 use Rattle.token.proofs.row.put_row.Reads as put-row-reads
 use Rattle.token.proofs.source.Reads as source-reads
 use Rattle.token.proofs.token_program.Reads as token-program-reads
@@ -36,14 +37,22 @@ use Rattle.token.proofs.transfer.Reads as transfer-reads
 token-program-requires : tie.Need-token-program-requires
 token-program-requires c κs = search needs
 
+reason-requires : tie.Need-reason-requires
+reason-requires c κs = search needs
+
 returns : tie.Need-returns
-unfolding transferRows placed
+unfolding transferRows placed rowsFor
 returns c =
-    let a = c .before .before .before .before .before .before .args in
+    let start = c .before .before .before .before .before .before .before in
+    let a = start .args in
     let v = instructionAt (a .pack .now) (a .x .at) in
+    let program = c .before .before .token-program in
     let e : isToken (programOf (a .keys .now) v) ≡ false =
-    rw (← (c .before .before .before .before .before .before .pre .2)) (sym (c .before .token-program .ensures) ∙ not-true (c .before .token-program .result) (c .if1 .taken)) in
-    record { few = omega arith; counted = λ table h. rw (no-transfer (a .keys .now) v e); rows = λ table h. rw (no-transfer (a .keys .now) v e) }
+    rw (← (start .pre .2)) (sym (program .ensures) ∙ not-true (program .result) (c .before .if1 .taken)) in (
+      c .reason .ensures ∙ sym (no-token (a .keys .now) v e),
+      rw (c .reason .ensures)
+          record { few = omega arith; counted = λ table h. rw (no-transfer (a .keys .now) v e); rows = λ table h. rw (no-transfer (a .keys .now) v e) },
+    )
 
 accounts-requires : tie.Need-accounts-requires
 accounts-requires c κs = search needs
@@ -69,33 +78,40 @@ mint-requires c κs = search needs
 put-row-requires : tie.Need-put-row-requires
 put-row-requires c κs = search needs
 
-count-requires : tie.Need-count-requires
-count-requires c κs = search needs
+reason-requires-2 : tie.Need-reason-requires-2
+reason-requires-2 c κs = search needs
 
 same-length : tie.Need-same-length
 same-length c = search needs
 
 -- where the call began, its keys and its instruction
-abbrev start : tie.After-count → tie.Start
+abbrev start : tie.After-reason2 → tie.Start
 start c = c .before .before .before .before .before .before .before .before .before .before .before .before .before .before .before .before .before .before
 
-abbrev keys : tie.After-count → List ℕ
+abbrev keys : tie.After-reason2 → List ℕ
 keys c = start c .args .keys .now
 
-abbrev item : tie.After-count → Instruction
+abbrev item : tie.After-reason2 → Instruction
 item c = instructionAt (start c .args .pack .now) (start c .args .x .at)
 
--- what is moved is the instruction's transfer
-value : (c : tie.After-count) → transferValue (keyOf (keys c)) (c .before .before .before .before .before .before .before .before .before .transfer .result) ≡ transferOf (keys c) (item c)
-unfolding transferOf
-value c =
+-- program, accounts and data are the instruction's
+read : {A : Type 0} (f : Id → List ℕ → List ℕ → A) (c : tie.After-reason2)
+    → f (start c .args .x .program) (c .before .before .before .before .before .before .before .before .before .before .before .accounts .result .now) (c .before .before .before .before .before .before .before .before .before .before .«data» .result .now) ≡ f (programOf (keys c) (item c)) (item c .accounts) (item c .bytes)
+read f c =
     let a = c .before .before .before .before .before .before .before .before .before .before .before .accounts in
     let d = c .before .before .before .before .before .before .before .before .before .before .«data» in
-    let ks = keys c in
-    c .before .before .before .before .before .before .before .before .before .transfer .ensures .1
-    ∙ ap (λ (i : Id). transfer (keyOf ks) i (a .result .now) (d .result .now)) (start c .pre .2)
-    ∙ ap (λ (l : List ℕ). transfer (keyOf ks) (programOf ks (item c)) l (d .result .now)) (a .ensures)
-    ∙ ap (λ (l : List ℕ). transfer (keyOf ks) (programOf ks (item c)) (item c .accounts) l) (d .ensures)
+    ap (λ (i : Id). f i (a .result .now) (d .result .now)) (start c .pre .2)
+    ∙ ap (λ (l : List ℕ). f (programOf (keys c) (item c)) l (d .result .now)) (a .ensures)
+    ∙ ap (f (programOf (keys c) (item c)) (item c .accounts)) (d .ensures)
+
+-- so what is moved is its transfer, and the reason its own
+value : (c : tie.After-reason2) → transferValue (keyOf (keys c)) (c .before .before .before .before .before .before .before .before .before .transfer .result) ≡ transferOf (keys c) (item c)
+unfolding transferOf
+value c = c .before .before .before .before .before .before .before .before .before .transfer .ensures .1 .0 ∙ read (transfer (keyOf (keys c))) c
+
+told : (c : tie.After-reason2) → reasonOf (c .before .before .before .before .before .before .before .before .before .transfer .result) ≡ reasonIn (keys c) (item c)
+unfolding reasonIn
+told c = c .before .before .before .before .before .before .before .before .before .transfer .ensures .1 .1 ∙ read (reason (keyOf (keys c))) c
 
 returns-2 : tie.Need-returns-2
 unfolding transferRows
@@ -103,21 +119,24 @@ returns-2 c =
     let a = start c .args in
     let moved = c .before .before .before .before .before .before .before .before .before .transfer .result in
     let program = keyOf (keys c) (item c .program) in
-    let mint = mintOf (knownMint (a .mints .now) (sourceBy moved)) in
-    record {
-      few = rw (c .count .ensures) (count-le moved);
-      counted = λ table h. c .count .ensures ∙ row-counted (keyOf (keys c)) (mintIn table) (a .x .number) program mint moved ∙ rw (value c);
-      rows =
-          λ table h.
-          rw (c .before .before .before .put-row .ensures, c .before .before .before .before .mint .ensures, c .before .before .before .before .before .source .ensures, c .before .before .before .before .before .before .program .ensures)
-          (row-placed (keyOf (keys c)) (mintIn table) (a .x .number) program mint moved (h (sourceBy moved) (rw (← (c .before .before .before .before .before .source .ensures)) (omega arith))) (a .out .now) (a .x .row) ∙ rw (value c));
-    }
+    let mint = mintOf (knownMint (a .mints .now) (sourceBy moved)) in (
+      c .reason2 .ensures ∙ told c,
+      record {
+        few = rows-le (c .reason2 .result);
+        counted = λ table h. rw (c .reason2 .ensures) (row-counted (keyOf (keys c)) (mintIn table) (a .x .number) program mint moved ∙ rw (value c));
+        rows =
+            λ table h.
+            rw (c .before .before .before .put-row .ensures, c .before .before .before .before .mint .ensures, c .before .before .before .before .before .source .ensures, c .before .before .before .before .before .before .program .ensures)
+            (row-placed (keyOf (keys c)) (mintIn table) (a .x .number) program mint moved (h (sourceBy moved) (rw (← (c .before .before .before .before .before .source .ensures)) (omega arith))) (a .out .now) (a .x .row) ∙ rw (value c));
+      },
+    )
 
 pub put-one-spec : {M : Type 1} → statement M
 put-one-spec =
     tie.close
     (tie.spec
     token-program-requires
+    reason-requires
     returns
     accounts-requires
     data-requires
@@ -127,6 +146,6 @@ put-one-spec =
     source-requires
     mint-requires
     put-row-requires
-    count-requires
+    reason-requires-2
     same-length
     returns-2)

@@ -1,10 +1,14 @@
 -- The rows so far are those of the invocations so far, and each candidate adds its own behind them.
-use Rattle.route.proofs.Rows.{candidate, fills-none, fills-more, counts-none, counts-more}
-use Rattle.route.specs.Known.{Puts, Fills, Counts}
+use Rattle.route.proofs.Moving.{rows-le}
+use Rattle.route.proofs.Rows.{candidate, fills-none, fills-more, array-more}
+use Rattle.route.specs.Arrays.{itemAt}
+use Rattle.route.specs.Known.{Puts, Fills}
 use Rattle.route.specs.Widths.{transferWidth}
-use Rattle.route.specs.Transfers.{transferRows}
+use Rattle.route.specs.Transfers.{transferRows, reasonIn, reasonsOf, rowsFor}
 use Rattle.pack.specs.Sections.{sectionOf}
+use Rattle.wire.specs.Tab.{tab}
 use lib.ListN.{length}
+use lib.Seq.{sets}
 use Prim.Native.Nat.{_-_, _≤_}
 use mathlib.Core.Path.{_≡_, refl, _∙_}
 use native.Mathlib.Omega.{arith}
@@ -18,23 +22,24 @@ use Rattle.route.proofs.invocations.wide.Reads as wide-reads
 use Rattle.route.proofs.transfers.put_one.Reads as put-one-reads
 
 abbrev Inv-loop : tie.InvT-loop
-Inv-loop pack n at programs mints out₀ moved₀ keys k₀ i₀ out moved k i =
-    (i ≤ n) × (k ≤ i) × (length out ≡ length out₀) × Fills mints pack at (transferRows (sectionOf pack 0)) transferWidth i k out₀ out × Counts mints pack at (transferRows (sectionOf pack 0)) i moved₀ moved
+Inv-loop pack n at programs mints out₀ reasons₀ keys k₀ i₀ out reasons k i =
+    (i ≤ n) × (k ≤ i) × (length out ≡ length out₀) × Fills mints pack at (transferRows (sectionOf pack 0)) transferWidth i k out₀ out × (reasons ≡ sets reasons₀ 0 (reasonsOf pack at i))
 
 abbrev μ-loop : tie.MeasureT-loop
-μ-loop pack n at programs mints out₀ moved₀ keys k₀ i₀ out moved k i = n - i
+μ-loop pack n at programs mints out₀ reasons₀ keys k₀ i₀ out reasons k i = n - i
 
 section-requires : tie.Need-section-requires Inv-loop μ-loop
 section-requires c κs = tt
 
 loop-holds : tie.Need-loop-holds Inv-loop μ-loop
+unfolding tab
 loop-holds c =
     let a = c .before .before .before .before .args in (
       omega arith,
       omega arith,
       refl,
       fills-none (a .mints .now) (a .pack .now) (a .at .now) (transferRows (sectionOf (a .pack .now) 0)) transferWidth (a .out .now),
-      counts-none (a .mints .now) (a .pack .now) (a .at .now) (transferRows (sectionOf (a .pack .now) 0)) (a .moved .now),
+      refl,
     )
 
 element-copy-out-of-number : tie.Need-element-copy-out-of-number Inv-loop μ-loop
@@ -52,25 +57,22 @@ element-copy-out-wide c = omega arith
 wide-requires : tie.Need-wide-requires Inv-loop μ-loop
 wide-requires c κs = tt
 
-cast-wide : tie.Need-cast-wide Inv-loop μ-loop
-cast-wide c = omega arith
+cast-t23 : tie.Need-cast-t23 Inv-loop μ-loop
+cast-t23 c = omega arith
 
 put-one-requires : tie.Need-put-one-requires Inv-loop μ-loop
 put-one-requires c κs =
     let start = c .before .before .before .before .before .before .before .before .before .before .before in
     (start .pre .1, omega arith, rw (c .before .before .before .before .before .before .before .section .ensures, c .before .wide .ensures) (c .before .before .before .of-number .ensures ∙ start .pre .2 (c .before .before .before .before .before .before .loop .i) (omega arith)))
 
-element-write-moved : tie.Need-element-write-moved Inv-loop μ-loop
-element-write-moved c = omega arith
+element-write-reasons : tie.Need-element-write-reasons Inv-loop μ-loop
+element-write-reasons c = omega arith
 
-cast-wide-2 : tie.Need-cast-wide-2 Inv-loop μ-loop
-cast-wide-2 c = omega arith
-
-wide-requires-2 : tie.Need-wide-requires-2 Inv-loop μ-loop
-wide-requires-2 c κs = tt
+rows-requires : tie.Need-rows-requires Inv-loop μ-loop
+rows-requires c κs = tt
 
 add-k : tie.Need-add-k Inv-loop μ-loop
-add-k c = omega (arith, c .wide2 .ensures, c .before .before .before .put-one .ensures .few)
+add-k c = omega (arith, c .rows .ensures, rows-le (c .before .before .before .put-one .result))
 
 add-i : tie.Need-add-i Inv-loop μ-loop
 add-i c = omega arith
@@ -85,13 +87,16 @@ loop-again c =
     let f = transferRows (sectionOf (a .pack .now) 0) in
     let put = c .before .before .before .put-one in
     let id = c .before .before .before .before .before .before .before .of-number .result in
-    let one : Puts (a .mints .now) (sectionOf (a .pack .now) 0) (a .pack .now) f transferWidth (candidate (a .at .now) id (l .i) (l .k)) (put .result) (l .out) (put .last .1 .1 .1 .1 .0) =
-    rw (c .before .before .before .before .before .before .before .before .before .before .before .section .ensures, c .before .before .before .before .before .wide .ensures) at (put .ensures) in (
+    let keys = c .before .before .before .before .before .before .before .before .before .before .before .section .ensures in
+    let offset = c .before .before .before .before .before .wide .ensures in
+    let one : Puts (a .mints .now) (sectionOf (a .pack .now) 0) (a .pack .now) f transferWidth (candidate (a .at .now) id (l .i) (l .k)) (rowsFor (put .result)) (l .out) (put .last .1 .1 .1 .1 .0) =
+    rw (keys, offset) at (put .ensures .1) in
+    let told : put .result ≡ reasonIn (sectionOf (a .pack .now) 0) (itemAt (a .pack .now) (a .at .now) (l .i)) = rw (keys, offset) at (put .ensures .0) in (
       omega arith,
-      omega (arith, c .wide2 .ensures, one .few),
+      omega (arith, c .rows .ensures, one .few),
       put .kept .1 .1 .1 .1 .0 ∙ l .inv .2,
-      rw (c .wide2 .ensures) (fills-more (a .mints .now) (a .pack .now) (a .at .now) f id transferWidth (l .i) (l .k) (put .result) (a .out .now) (l .out) _ (l .inv .3) one),
-      counts-more (a .mints .now) (a .pack .now) (a .at .now) f id transferWidth (l .i) (l .k) (put .result) (l .out) _ (a .moved .now) (l .moved) (l .inv .4) one,
+      rw (c .rows .ensures) (fills-more (a .mints .now) (a .pack .now) (a .at .now) f id transferWidth (l .i) (l .k) (rowsFor (put .result)) (a .out .now) (l .out) _ (l .inv .3) one),
+      rw told (array-more (λ i. reasonIn (sectionOf (a .pack .now) 0) (itemAt (a .pack .now) (a .at .now) i)) (l .i) (a .reasons .now) (l .reasons) (l .inv .4)),
     )
 
 same-length : tie.Need-same-length Inv-loop μ-loop
@@ -116,11 +121,10 @@ put-rows-spec =
     mul-wide
     element-copy-out-wide
     wide-requires
-    cast-wide
+    cast-t23
     put-one-requires
-    element-write-moved
-    cast-wide-2
-    wide-requires-2
+    element-write-reasons
+    rows-requires
     add-k
     add-i
     loop-less
