@@ -36,13 +36,13 @@ long input h =
 -- an outer invocation and two below it, with heights 1, 2 and 3
 pub example : listed
     (record { number = 0; place = 0; mints = 0; invocations = 3; transfers = 0; legs = 0; natives = 0; passes = 0; tests = 2 })
-    (invocationRow (record { outer = 0; inner = none; height = some 1 }) 3 0 0 0
-    ++ invocationRow (record { outer = 0; inner = some 0; height = some 2 }) 3 0 0 1
-    ++ invocationRow (record { outer = 0; inner = some 1; height = some 3 }) 3 0 0 2)
+    (invocationRow (record { outer = 0; inner = none; height = some 1 }) 3 0 0 0 1
+    ++ invocationRow (record { outer = 0; inner = some 0; height = some 2 }) 3 0 0 1 2
+    ++ invocationRow (record { outer = 0; inner = some 1; height = some 3 }) 3 0 0 2 5)
     ≡
     111 ∷ 107 ∷ 32 ∷ 48 ∷ 32 ∷ 51 ∷ 32 ∷ 48 ∷ 32 ∷ 48 ∷ 32 ∷ 48 ∷ 32 ∷ 112 ∷ 97 ∷ 115 ∷ 115 ∷ 101 ∷ 115 ∷ 32 ∷ 48 ∷ 32 ∷ 116 ∷ 101 ∷ 115 ∷ 116 ∷ 115 ∷ 32 ∷ 50 ∷ 10 ∷
-    48 ∷ 32 ∷ 45 ∷ 32 ∷ 49 ∷ 32 ∷ 51 ∷ 32 ∷ 48 ∷ 32 ∷ 48 ∷ 10 ∷
-    48 ∷ 32 ∷ 48 ∷ 32 ∷ 50 ∷ 32 ∷ 51 ∷ 32 ∷ 48 ∷ 32 ∷ 49 ∷ 10 ∷
-    48 ∷ 32 ∷ 49 ∷ 32 ∷ 51 ∷ 32 ∷ 51 ∷ 32 ∷ 48 ∷ 32 ∷ 50 ∷ 10 ∷ []
+    48 ∷ 32 ∷ 45 ∷ 32 ∷ 49 ∷ 32 ∷ 51 ∷ 32 ∷ 48 ∷ 32 ∷ 48 ∷ 32 ∷ 49 ∷ 10 ∷
+    48 ∷ 32 ∷ 48 ∷ 32 ∷ 50 ∷ 32 ∷ 51 ∷ 32 ∷ 48 ∷ 32 ∷ 49 ∷ 32 ∷ 50 ∷ 10 ∷
+    48 ∷ 32 ∷ 49 ∷ 32 ∷ 51 ∷ 32 ∷ 51 ∷ 32 ∷ 48 ∷ 32 ∷ 50 ∷ 32 ∷ 53 ∷ 10 ∷ []
 unfolding le leBytes flagged invocationRow decimalIn decimal spaced wordNumber counts head optional position line linesFrom listed
 example = refl

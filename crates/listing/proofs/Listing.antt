@@ -27,12 +27,12 @@ lines-more rows (suc n) i =
     ∙ rw (suc-add, add-suc) (sym (append-assoc (line (rowIn rows i)) (linesFrom rows n (suc i)) (line (rowIn rows (suc (i + n))))))
 
 -- a line put behind i others
-pub puts-line : (rows : List ℕ) (i : ℕ) {from at next : ℕ} {out mid end : List ℕ} → PutsText (i * 59) out from (linesFrom rows i 0) mid at → PutsText 59 mid at (line (rowIn rows i)) end next
-    → PutsText ((i + 1) * 59) out from (linesFrom rows (i + 1) 0) end next
+pub puts-line : (rows : List ℕ) (i : ℕ) {from at next : ℕ} {out mid end : List ℕ} → PutsText (i * 63) out from (linesFrom rows i 0) mid at → PutsText 63 mid at (line (rowIn rows i)) end next
+    → PutsText ((i + 1) * 63) out from (linesFrom rows (i + 1) 0) end next
 puts-line rows i p q =
     let w = puts-next p q in
     let e : linesFrom rows i 0 ++ line (rowIn rows i) ≡ linesFrom rows (i + 1) 0 = sym (rw (add-one i) (lines-more rows i 0 ∙ rw (zero-add i))) in
-    let b : i * 59 + 59 ≡ (i + 1) * 59 = omega arith in
+    let b : i * 63 + 63 ≡ (i + 1) * 63 = omega arith in
     rw (← e, ← b) w
 
 -- the listing, by what a call of `route` with both parts of the input leaves

@@ -45,9 +45,9 @@ optional row flag = cond (eqb (getD row flag 0) 0) (32 ∷ 45 ∷ []) (spaced (l
 unfoldable pub position : List ℕ → List ℕ
 position row = decimal (le 4 row 0) ++ optional row 4 ++ optional row 9
 
--- its line: where it stands, its end, its bits, its parent
+-- its line: where it stands, its end, its bits, its parent, why it gave no transfer
 unfoldable pub line : List ℕ → List ℕ
-line row = position row ++ spaced (le 4 row 14) ++ spaced (getD row 18 0) ++ spaced (le 4 row 23) ++ newline
+line row = position row ++ spaced (le 4 row 14) ++ spaced (getD row 18 0) ++ spaced (le 4 row 23) ++ spaced (getD row 27 0) ++ newline
 
 -- the lines of n rows from row i on
 unfoldable pub linesFrom : List ℕ → ℕ → ℕ → List ℕ

@@ -88,7 +88,7 @@ fn head(out: &mut [u8], a: Answer) -> usize
 
 // A number of a row behind its flag, with a space in front: a dash where the flag is 0.
 fn optional(out: &mut [u8], at: usize, row: &[u8], flag: usize) -> usize
-    requires { ⌜ at ≤ 60600 ⌝ }
+    requires { ⌜ at ≤ 64700 ⌝ }
     requires { ⌜ flag ≤ 9 ⌝ }
     ensures { λ r. ⌜ PutsText 11 (now (out .entry)) at (Listing·optional (now (row .entry)) flag) (now (out .exit)) r ⌝ }
 {
@@ -100,7 +100,7 @@ fn optional(out: &mut [u8], at: usize, row: &[u8], flag: usize) -> usize
 
 // Where an invocation stands: outer, inner, height.
 fn position(out: &mut [u8], from: usize, row: &[u8]) -> usize
-    requires { ⌜ from ≤ 60500 ⌝ }
+    requires { ⌜ from ≤ 64600 ⌝ }
     ensures { λ r. ⌜ PutsText 32 (now (out .entry)) from (Listing·position (now (row .entry))) (now (out .exit)) r ⌝ }
 {
     let mut at = number(out, from, wire::u32_at(row, 0));
@@ -108,15 +108,16 @@ fn position(out: &mut [u8], from: usize, row: &[u8]) -> usize
     optional(out, at, row, 9)
 }
 
-// An invocation: where it stands, its end, its bits, its parent.
+// An invocation: where it stands, its end, its bits, its parent, why it gave no transfer.
 fn line(out: &mut [u8], from: usize, row: &[u8]) -> usize
-    requires { ⌜ from ≤ 60500 ⌝ }
-    ensures { λ r. ⌜ PutsText 59 (now (out .entry)) from (Listing·line (now (row .entry))) (now (out .exit)) r ⌝ }
+    requires { ⌜ from ≤ 64600 ⌝ }
+    ensures { λ r. ⌜ PutsText 63 (now (out .entry)) from (Listing·line (now (row .entry))) (now (out .exit)) r ⌝ }
 {
     let mut at = position(out, from, row);
     at = field(out, at, wire::u32_at(row, 14));
     at = field(out, at, wire::byte(row, 18) as u32);
     at = field(out, at, wire::u32_at(row, 23));
+    at = field(out, at, wire::byte(row, 27) as u32);
     word(out, at, b"\n")
 }
 
@@ -125,7 +126,7 @@ fn lines(out: &mut [u8], from: usize, rows: &[u8], n: usize) -> usize
     requires { ⌜ from ≤ 93 ⌝ }
     requires { ⌜ n ≤ 1024 ⌝ }
     requires { ⌜ n * invocationWidth ≤ length (now rows) ⌝ }
-    ensures { λ r. ⌜ PutsText 60416 (now (out .entry)) from (linesFrom (now (rows .entry)) n 0) (now (out .exit)) r ⌝ }
+    ensures { λ r. ⌜ PutsText 64512 (now (out .entry)) from (linesFrom (now (rows .entry)) n 0) (now (out .exit)) r ⌝ }
 {
     let mut at = from;
     let mut i = 0;

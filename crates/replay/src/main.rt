@@ -123,7 +123,7 @@ fn run(
 fn main() {
     let mut buffer = [0u8; 393216];
     let mut mints = [0u8; 17408];
-    let mut invocations = [0u8; 28672];
+    let mut invocations = [0u8; 29696];
     let mut transfers = [0u8; 154624];
     let mut legs = [0u8; 257024];
     let mut natives = [0u8; 112640];

@@ -1,4 +1,5 @@
--- Where it stands, its end, its bits and its parent are put, each behind the one before; the bits are a byte, so a line is at most 59 bytes long.
+-- Where it stands, its end, its bits, its parent and its reason are put, each behind the one before; bits and reason are a byte each, so a line is at most 63
+-- bytes long.
 -- Assumes nothing.
 use Rattle.listing.proofs.Putting.{puts-next, puts-byte}
 use Rattle.listing.specs.Listing.{line}
@@ -31,6 +32,15 @@ u32-at-requires-2 c κs = search needs
 field-requires-3 : tie.Need-field-requires-3
 field-requires-3 c κs = search needs
 
+byte-requires-2 : tie.Need-byte-requires-2
+byte-requires-2 c κs = search needs
+
+cast-field-2 : tie.Need-cast-field-2
+cast-field-2 c = search needs
+
+field-requires-4 : tie.Need-field-requires-4
+field-requires-4 c κs = search needs
+
 slice-aggregate-word : tie.Need-slice-aggregate-word
 slice-aggregate-word c = search needs
 
@@ -44,12 +54,13 @@ returns : tie.Need-returns
 unfolding line
 returns c =
     let w = c .before .before in
-    let q = w .before .before .before .before .before in
+    let r = w .before .before .before .before .before in
+    let q = r .before .before .before .before .before in
     let b = q .before .before .before .before .before in
     let e = b .before .before .before .before .before in
     let p = e .before .before .before .before .before in
-    rw (← e .before .u32-at .ensures, ← b .before .byte .ensures, ← q .before .u32-at2 .ensures)
-    (puts-next (puts-next (puts-next (puts-next (p .position .ensures) (e .field .ensures)) (puts-byte (omega arith) (b .field2 .ensures))) (q .field3 .ensures)) (w .word .ensures))
+    rw (← e .before .u32-at .ensures, ← b .before .byte .ensures, ← q .before .u32-at2 .ensures, ← r .before .byte2 .ensures)
+    (puts-next (puts-next (puts-next (puts-next (puts-next (p .position .ensures) (e .field .ensures)) (puts-byte (omega arith) (b .field2 .ensures))) (q .field3 .ensures)) (puts-byte (omega arith) (r .field4 .ensures))) (w .word .ensures))
 
 pub line-spec : {M : Type 1} → statement M
 line-spec =
@@ -63,6 +74,9 @@ line-spec =
     field-requires-2
     u32-at-requires-2
     field-requires-3
+    byte-requires-2
+    cast-field-2
+    field-requires-4
     slice-aggregate-word
     word-requires
     same-length

@@ -1,4 +1,4 @@
--- The lines of the rows before i stand one behind the other, each of at most 59 bytes.
+-- The lines of the rows before i stand one behind the other, each of at most 63 bytes.
 -- Assumes nothing.
 use native.Mathlib.Nat.{add-sub-cancel-left}
 use lib.ListN.{length}
@@ -14,7 +14,7 @@ use Rattle.listing.proofs.lines.Statement.{statement}
 use Rattle.listing.proofs.lines.Tie as tie
 
 abbrev Inv-loop : tie.InvT-loop
-Inv-loop out₀ from rows n at₀ i₀ out at i = (i ≤ n) × PutsText (i * 59) out₀ from (linesFrom rows i 0) out at
+Inv-loop out₀ from rows n at₀ i₀ out at i = (i ≤ n) × PutsText (i * 63) out₀ from (linesFrom rows i 0) out at
 
 abbrev μ-loop : tie.MeasureT-loop
 μ-loop out₀ from rows n at₀ i₀ out at i = n - i
@@ -61,7 +61,7 @@ returns : tie.Need-returns Inv-loop μ-loop
 returns c =
     let l = c .before .loop in
     let e : l .i ≡ c .before .before .before .before .args .n = omega arith in
-    puts-wider 60416 (omega arith) (rw e at (l .inv .1))
+    puts-wider 64512 (omega arith) (rw e at (l .inv .1))
 
 pub lines-spec : {M : Type 1} → statement M
 lines-spec =
