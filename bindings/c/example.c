@@ -250,12 +250,16 @@ static int depth(const uint8_t *row)
 static void print_invocation(const uint8_t *row)
 {
     uint64_t leg = number(row + MBELAGUY_INVOCATION_LEG, 4), parent = number(row + MBELAGUY_INVOCATION_PARENT, 4);
+    uint8_t reason = row[MBELAGUY_INVOCATION_REASON];
     printf("%*sinvocation: outer %" PRIu64, 2 * depth(row), "", number(row + MBELAGUY_INVOCATION_OUTER, 4));
     print_optional("inner", row[MBELAGUY_INVOCATION_INNER_FLAG], number(row + MBELAGUY_INVOCATION_INNER, 4));
     print_optional("height", row[MBELAGUY_INVOCATION_HEIGHT_FLAG], number(row + MBELAGUY_INVOCATION_HEIGHT, 4));
     printf(" end %" PRIu64 " bits %d", number(row + MBELAGUY_INVOCATION_END, 4), row[MBELAGUY_INVOCATION_BITS]);
     print_optional("leg", leg != 0, leg - 1);
     print_optional("parent", parent != 0, parent - 1);
+    /* Of programs that are no token program nobody expects a transfer. */
+    if (reason != MBELAGUY_REASON_TRANSFER && reason != MBELAGUY_REASON_NOT_TOKEN)
+        printf(" no transfer: %s", mbelaguy_reason(reason));
     printf("\n");
 }
 

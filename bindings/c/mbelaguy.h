@@ -24,8 +24,8 @@ extern "C" {
 
 /* --------------------------------------------------------------- the version */
 
-#define MBELAGUY_VERSION "0.4.0"
-#define MBELAGUY_VERSION_NUMBER 1024 /* 65536 * first + 256 * second + third */
+#define MBELAGUY_VERSION "0.5.0"
+#define MBELAGUY_VERSION_NUMBER 1280 /* 65536 * first + 256 * second + third */
 
 /* MBELAGUY_VERSION_NUMBER of the library that is linked. */
 uint32_t mbelaguy_version(void);
@@ -233,7 +233,7 @@ mbelaguy_month_answer mbelaguy_month(
  */
 
 /* Table 1, in execution order. The tables from here on never need more than MBELAGUY_MAX_INVOCATIONS. */
-#define MBELAGUY_INVOCATION_ROW 27
+#define MBELAGUY_INVOCATION_ROW 28
 #define MBELAGUY_INVOCATION_OUTER 0       /* u32: index of the outer instruction */
 #define MBELAGUY_INVOCATION_INNER_FLAG 4  /* 1 for an inner instruction */
 #define MBELAGUY_INVOCATION_INNER 5       /* u32: index in its group */
@@ -243,6 +243,7 @@ mbelaguy_month_answer mbelaguy_month(
 #define MBELAGUY_INVOCATION_BITS 18       /* a sum of MBELAGUY_BIT_.. */
 #define MBELAGUY_INVOCATION_LEG 19        /* u32: 0, or 1 plus its row in table 3 */
 #define MBELAGUY_INVOCATION_PARENT 23     /* u32: 0, or 1 plus its parent's row in this table */
+#define MBELAGUY_INVOCATION_REASON 27     /* 0, or why it gave no transfer: MBELAGUY_REASON_.. */
 
 #define MBELAGUY_BIT_TRANSFERS_INSIDE 1   /* token transfers lie below it */
 #define MBELAGUY_BIT_SWAPS_INSIDE 2       /* swap legs lie below it */
@@ -250,6 +251,22 @@ mbelaguy_month_answer mbelaguy_month(
 #define MBELAGUY_BIT_RESOLVED 8           /* its program is a key of 32 bytes */
 #define MBELAGUY_BIT_OWN_LEG 16           /* it has a row in table 3 */
 #define MBELAGUY_BIT_OWN_TRANSFER 32      /* it has a row in table 2 */
+
+/*
+ * Why an invocation gave no transfer: the first of these tests that it failed, in this order. 0 stands
+ * where MBELAGUY_BIT_OWN_TRANSFER does, and there alone. mbelaguy_reason has the words.
+ */
+#define MBELAGUY_REASON_TRANSFER 0         /* none: it gave a transfer */
+#define MBELAGUY_REASON_NOT_TOKEN 1        /* its program is neither SPL Token nor Token-2022, or is not
+                                              resolved */
+#define MBELAGUY_REASON_UNSUPPORTED_TAG 2  /* its data is empty, or its first byte is none of 3, 12 and 26;
+                                              26 counts under Token-2022 alone, and with 1 for its second
+                                              byte */
+#define MBELAGUY_REASON_TOO_FEW_ACCOUNTS 3 /* under 3 accounts where the first byte is 3, else under 4 */
+#define MBELAGUY_REASON_DATA_TOO_SHORT 4   /* under 9 bytes where the first is 3, under 10 where it is 12,
+                                              under 19 where it is 26 */
+#define MBELAGUY_REASON_ZERO_KEY 5         /* the key of its source or its destination is missing or zero,
+                                              or, where the first byte is not 3, that of its mint */
 
 /*
  * An invocation lies below each earlier one whose end comes after it. The nearest of these is its parent;
@@ -335,7 +352,7 @@ mbelaguy_month_answer mbelaguy_month(
 #define MBELAGUY_REPORT_FEES 98           /* u128 */
 #define MBELAGUY_REPORT_APART 114         /* u32: transfers counted apart; 0 on an account's row */
 
-/* ---------------------------------------------------------- refusals in words */
+/* ----------------------------------------------- refusals and reasons in words */
 
 /* What an answer's number and place mean, for a person to read. */
 static inline const char *mbelaguy_refusal(uint32_t number, uint32_t place)
@@ -389,6 +406,27 @@ static inline const char *mbelaguy_refusal(uint32_t number, uint32_t place)
         break;
     }
     return "not known here; the library is of another release";
+}
+
+/* What a reason in table 1 means, for a person to read. */
+static inline const char *mbelaguy_reason(uint8_t reason)
+{
+    switch (reason) {
+    case MBELAGUY_REASON_TRANSFER:
+        return "it gave a transfer";
+    case MBELAGUY_REASON_NOT_TOKEN:
+        return "its program is neither SPL Token nor Token-2022";
+    case MBELAGUY_REASON_UNSUPPORTED_TAG:
+        return "another kind of instruction";
+    case MBELAGUY_REASON_TOO_FEW_ACCOUNTS:
+        return "too few accounts for this kind of transfer";
+    case MBELAGUY_REASON_DATA_TOO_SHORT:
+        return "data too short for this kind of transfer";
+    case MBELAGUY_REASON_ZERO_KEY:
+        return "the key of source, destination or mint is missing or zero";
+    default:
+        return "not known here; the library is of another release";
+    }
 }
 
 #ifdef __cplusplus

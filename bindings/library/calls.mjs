@@ -8,7 +8,7 @@
 import { readFileSync } from "node:fs";
 import { dirname, join } from "node:path";
 
-const MOST = [17408, 28672, 154624, 257024, 112640]; // bytes that a table is lent: those of crates/replay
+const MOST = [17408, 29696, 154624, 257024, 112640]; // bytes that a table is lent: those of crates/replay
 const LONGEST = 393216; // bytes of a stored call and its answer
 const AROUND = 64; // bytes before and behind a table, which no call may touch
 const FILL = 165; // what all bytes are before a call

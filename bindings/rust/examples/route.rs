@@ -3,7 +3,7 @@
 //! c/example.c does the same in C and prints the same.
 
 use mbelaguy::pack::{Balance, Group, Inner, Instruction, KeyRow, Pack};
-use mbelaguy::rows::{Action, Invocation, Leg, Mint, MintRow, Native, Transfer};
+use mbelaguy::rows::{Action, Invocation, Leg, Mint, MintRow, Native, Reason, Transfer};
 use mbelaguy::{base58, ids, route, Key, Month, MonthLine, Names, Table, Tables};
 use std::error::Error;
 use std::iter::successors;
@@ -95,8 +95,10 @@ fn depth(row: &Invocation, rows: &[Invocation]) -> usize {
 
 fn print_invocation(row: &Invocation, depth: usize) {
     let number = |number: Option<u32>| number.map_or("-".to_string(), |n| n.to_string());
+    // Of programs that are no token program nobody expects a transfer.
+    let reason = row.reason.filter(|reason| *reason != Reason::NotToken);
     println!(
-        "{}invocation: outer {} inner {} height {} end {} bits {} leg {} parent {}",
+        "{}invocation: outer {} inner {} height {} end {} bits {} leg {} parent {}{}",
         "  ".repeat(depth),
         row.outer,
         number(row.inner),
@@ -104,7 +106,8 @@ fn print_invocation(row: &Invocation, depth: usize) {
         row.end,
         row.bits(),
         number(row.leg),
-        number(row.parent)
+        number(row.parent),
+        reason.map_or(String::new(), |reason| format!(" no transfer: {reason}"))
     );
 }
 

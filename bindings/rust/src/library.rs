@@ -82,7 +82,7 @@ pub fn route(names: &[u8], pack: &[u8], tables: &mut Tables) -> Result<Answer, R
 /// The call as the library has it: tables of any lengths, and the answer as it comes.
 ///
 /// ```
-/// let mut tables = [vec![0; 65], vec![0; 27], vec![], vec![], vec![]];
+/// let mut tables = [vec![0; 65], vec![0; 28], vec![], vec![], vec![]];
 /// let answer = mbelaguy::route_into(&[0; 88], b"no pack", tables.each_mut().map(Vec::as_mut_slice));
 /// assert_eq!((answer.number, answer.place), (2, 0));
 /// assert_eq!(answer.refusal(), Some(mbelaguy::Refusal::Mark));
@@ -174,7 +174,7 @@ impl Tables {
     ///
     /// let pack = Pack { outer: vec![Instruction::default(); 3], ..Pack::default() };
     /// let tables = Tables::for_pack(&pack.write()?);
-    /// assert_eq!(tables.bytes(Table::Invocations).len(), 3 * 27);
+    /// assert_eq!(tables.bytes(Table::Invocations).len(), 3 * 28);
     /// # Ok::<(), mbelaguy::pack::DoesNotFit>(())
     /// ```
     pub fn for_pack(pack: &[u8]) -> Self {

@@ -1,6 +1,7 @@
-//! The header compiles by itself as C and as C++, and what it says of a refusal is what the crate says.
-//! Where there is no compiler, nothing is compared.
+//! The header compiles by itself as C and as C++, and what it says of a refusal or a reason is what the
+//! crate says. Where there is no compiler, nothing is compared.
 
+use mbelaguy::rows::Reason;
 use mbelaguy::Refusal;
 use std::io::ErrorKind;
 use std::path::Path;
@@ -16,17 +17,19 @@ int main(void)
     for (uint32_t number = 0; number < 30; number++)
         for (uint32_t place = 0; place < 7; place++)
             printf("%u %u %s\n", (unsigned)number, (unsigned)place, mbelaguy_refusal(number, place));
+    for (unsigned reason = 0; reason < 256; reason++)
+        printf("%u %s\n", reason, mbelaguy_reason((uint8_t)reason));
     return 0;
 }
 "#;
 
 #[test]
-fn refusals_in_c_are_those_of_the_crate() {
+fn words_in_c_are_those_of_the_crate() {
     compare("cc", &["-std=c99", "-x", "c"]);
 }
 
 #[test]
-fn refusals_in_cpp_are_those_of_the_crate() {
+fn words_in_cpp_are_those_of_the_crate() {
     compare("c++", &["-std=c++11", "-x", "c++"]);
 }
 
@@ -62,5 +65,13 @@ fn compare(compiler: &str, language: &[&str]) {
             };
             assert_eq!(lines.next(), Some(&format!("{number} {place} {words}")[..]));
         }
+    }
+    for number in 0..=u8::MAX {
+        let words = match Reason::of(number) {
+            _ if number == 0 => "it gave a transfer".to_string(),
+            Some(reason) => reason.to_string(),
+            None => "not known here; the library is of another release".to_string(),
+        };
+        assert_eq!(lines.next(), Some(&format!("{number} {words}")[..]));
     }
 }

@@ -2,7 +2,7 @@
 
 use mbelaguy::pack::{self, Balance, Group, Inner, Instruction, KeyRow, Pack};
 use mbelaguy::rows::{
-    Action, Invocation, Lack, Leg, Mark, Mint, MintRow, Mode, Native, Protocol, Transfer,
+    Action, Invocation, Lack, Leg, Mark, Mint, MintRow, Mode, Native, Protocol, Reason, Transfer,
 };
 use mbelaguy::{
     ids, Answer, Key, Month, MonthLine, Names, Refusal, Section, Table, Tables, MAX_FED,
@@ -91,6 +91,12 @@ fn numbers() {
         ("BIT_RESOLVED", Invocation::RESOLVED.into()),
         ("BIT_OWN_LEG", Invocation::OWN_LEG.into()),
         ("BIT_OWN_TRANSFER", Invocation::OWN_TRANSFER.into()),
+        ("REASON_TRANSFER", 0),
+        ("REASON_NOT_TOKEN", Reason::NotToken as usize),
+        ("REASON_UNSUPPORTED_TAG", Reason::UnsupportedTag as usize),
+        ("REASON_TOO_FEW_ACCOUNTS", Reason::TooFewAccounts as usize),
+        ("REASON_DATA_TOO_SHORT", Reason::DataTooShort as usize),
+        ("REASON_ZERO_KEY", Reason::ZeroKey as usize),
         ("PROTOCOL_PUMP_SWAP", Protocol::PumpSwap as usize),
         ("PROTOCOL_LAUNCH_LAB", Protocol::LaunchLab as usize),
         ("PROTOCOL_CPMM", Protocol::Cpmm as usize),
@@ -210,6 +216,7 @@ fn invocation_rows() {
             ("BITS", &[1 + 4 + 16]),
             ("LEG", &[18, 18, 19, 20]),
             ("PARENT", &[22, 22, 23, 24]),
+            ("REASON", &[Reason::DataTooShort as u8]),
         ],
     );
     let expected = Invocation {
@@ -224,6 +231,7 @@ fn invocation_rows() {
         own_transfer: false,
         leg: Some(0x1413_1211),
         parent: Some(0x1817_1615),
+        reason: Some(Reason::DataTooShort),
     };
     let read = tables([vec![], row, vec![], vec![], vec![]]);
     assert_eq!(read.invocations().next(), Some(expected));

@@ -1,8 +1,8 @@
-//! The call through the library: answers, refusals, tables of any size.
+//! The call through the library: answers, refusals, reasons, tables of any size.
 
 use mbelaguy::pack::{Balance, Group, Inner, Instruction, KeyRow, Pack, MAX_BYTES};
-use mbelaguy::rows::{Lack, Mark, Mint};
-use mbelaguy::{ids, route, route_into, Answer, Names, Refusal, Section, Table, Tables};
+use mbelaguy::rows::{Lack, Mark, Mint, Reason};
+use mbelaguy::{ids, route, route_into, Answer, Key, Names, Refusal, Section, Table, Tables};
 use std::fs;
 use std::iter::successors;
 
@@ -93,6 +93,7 @@ fn the_listing_of_the_scope() {
     assert_eq!((answer.counts, answer.passes, answer.tests), ([0, 3, 0, 0, 0], 0, 2));
     assert!(tables.invocations().all(|row| row.end == 3));
     assert!(tables.invocations().map(|row| row.parent).eq([None, Some(0), Some(1)]));
+    assert!(tables.invocations().all(|row| row.reason == Some(Reason::NotToken)));
 }
 
 /// From parent to parent: the invocations whose blocks hold one, the nearest first.
@@ -112,6 +113,110 @@ fn parents_lead_through_the_blocks() {
     // The aggregator with its two swaps, as the rows have the parents: 0, or 1 plus a row.
     let parents = rows[8..19].iter().map(|row| row.parent.map_or(0, |parent| parent + 1));
     assert!(parents.eq([0, 9, 10, 10, 9, 13, 13, 13, 13, 9, 0]));
+}
+
+/// Why the one instruction of a pack gave no transfer: there is a transfer where there is no reason.
+fn reason(pack: &Pack) -> Option<Reason> {
+    let pack = pack.write().unwrap();
+    let mut tables = Tables::for_pack(&pack);
+    route(&names(), &pack, &mut tables).unwrap();
+    let reason = tables.invocations().next().unwrap().reason;
+    assert_eq!(reason.is_none(), tables.transfers().len() == 1);
+    reason
+}
+
+/// Indexes into the keys of `gives`: an account, the zero key, the program, and one that names none.
+const ACCOUNT: u8 = 0;
+const ZERO: u8 = 1;
+const PROGRAM: u8 = 2;
+const MISSING: u8 = 3;
+
+/// An instruction gives a transfer, or none for this reason.
+#[track_caller]
+fn gives(expected: Option<Reason>, program: Key, accounts: &[u8], data: &[u8]) {
+    let keys = [[1; 32], [0; 32], program].map(|key| KeyRow { whole: true, key });
+    let outer =
+        Instruction { program: PROGRAM.into(), accounts: accounts.to_vec(), data: data.to_vec() };
+    let pack = Pack { keys: keys.to_vec(), outer: vec![outer], ..Pack::default() };
+    assert_eq!(reason(&pack), expected, "accounts {accounts:?}, data {data:?}");
+}
+
+/// The kinds of transfer: the program, how the data begins, and how many bytes and accounts there have
+/// to be. The last of these accounts may have any key.
+const KINDS: [(Key, &[u8], usize, usize); 5] = [
+    (ids::SPL_TOKEN, &[3], 9, 3),
+    (ids::SPL_TOKEN, &[12], 10, 4),
+    (ids::TOKEN_2022, &[3], 9, 3),
+    (ids::TOKEN_2022, &[12], 10, 4),
+    (ids::TOKEN_2022, &[26, 1], 19, 4),
+];
+
+/// From nothing to a transfer, by one byte, account or key at a time. On the way the tests behind the one
+/// that is the reason would fail too.
+#[test]
+fn a_reason_ends_where_its_test_is_passed() {
+    for (program, begin, bytes, count) in KINDS {
+        let (mut accounts, mut data) = (Vec::new(), Vec::new());
+        gives(Some(Reason::NotToken), ids::MEMO, &accounts, &data);
+        for byte in begin {
+            gives(Some(Reason::UnsupportedTag), program, &accounts, &data);
+            data.push(*byte);
+        }
+        while accounts.len() < count {
+            gives(Some(Reason::TooFewAccounts), program, &accounts, &data);
+            accounts.push(MISSING);
+        }
+        while data.len() < bytes {
+            gives(Some(Reason::DataTooShort), program, &accounts, &data);
+            data.push(7);
+        }
+        for place in 0..count - 1 {
+            gives(Some(Reason::ZeroKey), program, &accounts, &data);
+            accounts[place] = ACCOUNT;
+        }
+        gives(None, program, &accounts, &data);
+        gives(Some(Reason::NotToken), ids::MEMO, &accounts, &data);
+    }
+}
+
+#[test]
+fn one_zero_key_is_enough() {
+    for (program, begin, bytes, count) in KINDS {
+        let data = [begin, &vec![7; bytes - begin.len()]].concat();
+        for place in 0..count {
+            for key in [ZERO, MISSING] {
+                let mut accounts = vec![ACCOUNT; count];
+                accounts[place] = key;
+                let expected = (place < count - 1).then_some(Reason::ZeroKey);
+                gives(expected, program, &accounts, &data);
+            }
+        }
+    }
+}
+
+/// Everything else that data may begin with.
+#[test]
+fn other_tags_are_unsupported() {
+    let begins = |transfer: bool, program, begin: [u8; 2]| {
+        let expected = if transfer { None } else { Some(Reason::UnsupportedTag) };
+        gives(expected, program, &[ACCOUNT; 4], &[&begin[..], &[7; 17]].concat());
+    };
+    for byte in 0..=u8::MAX {
+        begins([3, 12].contains(&byte), ids::SPL_TOKEN, [byte, 1]);
+        begins([3, 12, 26].contains(&byte), ids::TOKEN_2022, [byte, 1]);
+        begins(byte == 1, ids::TOKEN_2022, [26, byte]);
+    }
+}
+
+#[test]
+fn an_unresolved_program_is_no_token_program() {
+    assert_eq!(reason(&transfer()), None);
+    let mut cut = transfer();
+    cut.keys[2].whole = false;
+    assert_eq!(reason(&cut), Some(Reason::NotToken));
+    let mut beyond = transfer();
+    beyond.outer[0].program = 3;
+    assert_eq!(reason(&beyond), Some(Reason::NotToken));
 }
 
 #[test]
@@ -146,11 +251,11 @@ fn a_refusal_empties_the_tables() {
 #[test]
 fn tables_of_any_length() {
     let pack = transfer().write().unwrap();
-    let mut tables = [131, 28, 151, 1, 0].map(|length| vec![255; length]);
+    let mut tables = [131, 29, 151, 1, 0].map(|length| vec![255; length]);
     let lent = tables.each_mut().map(Vec::as_mut_slice);
     let answer = route_into(&names(), &pack, lent);
     assert_eq!(answer.refusal(), None);
-    for (table, used) in tables.iter().zip([130, 27, 150, 0, 0]) {
+    for (table, used) in tables.iter().zip([130, 28, 150, 0, 0]) {
         assert!(table[used..].iter().all(|byte| *byte == 0));
     }
     let kept = Tables::read(&answer, tables, &pack).unwrap();

@@ -2,7 +2,7 @@
 //! an amount has its mark with it.
 
 use mbelaguy::pack::{Balance, Instruction, KeyRow, Pack};
-use mbelaguy::rows::{Invocation, Lack, Mark, Mint};
+use mbelaguy::rows::{Invocation, Lack, Mark, Mint, Reason};
 use mbelaguy::{ids, Answer, BadTable, Key, Refusal, Table, Tables, MOST_ROWS, WIDTHS};
 use std::iter::successors;
 
@@ -27,6 +27,11 @@ fn beside(mints: Vec<u8>, table: Table, row: Vec<u8>, pack: &Pack) -> Result<Tab
 fn tables(counts: [u32; 5], bytes: [Vec<u8>; 5], pack: &Pack) -> Result<Tables, BadTable> {
     let answer = Answer { counts, ..Answer::default() };
     Tables::read(&answer, bytes, &pack.write().unwrap())
+}
+
+/// An invocation with these bits, this parent and this reason.
+fn invocation_row(bits: u8, parent: u32, reason: u8) -> Vec<u8> {
+    [&[0; 18][..], &[bits], &[0; 4], &parent.to_le_bytes(), &[reason]].concat()
 }
 
 /// A transfer from account 1, with this mint.
@@ -155,9 +160,10 @@ fn rows_have_one_length() {
         let zeroes = |length| beside(vec![], table, vec![0; length], &Pack::default());
         let short = BadTable::Short { table, rows: 0, count: 1 };
         assert_eq!(zeroes(WIDTHS[t] - 1), Err(short));
-        // Protocol 0 and kind 0 have no meaning.
+        // Protocol 0 and kind 0 have no meaning, nor has reason 0 where there is no transfer.
         let row = BadTable::Row { table, row: 0 };
-        assert_eq!(zeroes(WIDTHS[t]).err(), (t > 2).then_some(row));
+        let bad = matches!(table, Table::Invocations | Table::Legs | Table::Natives);
+        assert_eq!(zeroes(WIDTHS[t]).err(), bad.then_some(row));
     }
 }
 
@@ -169,8 +175,7 @@ fn every_byte_of_a_row_may_be_anything() {
         }
     }
     let invocation = |bits: u8| {
-        let mut row = vec![0; WIDTHS[1]];
-        row[18] = bits;
+        let row = invocation_row(bits, 0, 1);
         beside(vec![], Table::Invocations, row, &Pack::default()).is_ok()
     };
     assert!(invocation(Invocation::RESOLVED));
@@ -179,8 +184,24 @@ fn every_byte_of_a_row_may_be_anything() {
 }
 
 #[test]
+fn a_reason_stands_where_there_is_no_transfer() {
+    let read = |bits, reason| {
+        let row = invocation_row(bits, 0, reason);
+        let tables = beside(vec![], Table::Invocations, row, &Pack::default())?;
+        Ok(tables.invocations().next().unwrap().reason)
+    };
+    let bad = Err(BadTable::Row { table: Table::Invocations, row: 0 });
+    for number in 0..=u8::MAX {
+        let told = Reason::of(number).map_or(bad, |reason| Ok(Some(reason)));
+        assert_eq!(read(0, number), told, "{number} without a transfer");
+        let none = if number == 0 { Ok(None) } else { bad };
+        assert_eq!(read(Invocation::OWN_TRANSFER, number), none, "{number} beside a transfer");
+    }
+}
+
+#[test]
 fn a_parent_is_an_index_into_the_rows() {
-    let row = |parent: u32| [&[0; 23][..], &parent.to_le_bytes()].concat();
+    let row = |parent: u32| invocation_row(0, parent, 1);
     let bytes = [0, 1, 2, 1].map(row).concat();
     let bytes = [vec![], bytes, vec![], vec![], vec![]];
     let tables = tables([0, 4, 0, 0, 0], bytes, &Pack::default()).unwrap();

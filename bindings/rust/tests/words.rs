@@ -1,5 +1,6 @@
-//! What is written for a person: keys, marks and refusals.
+//! What is written for a person: keys, marks, reasons and refusals.
 
+use mbelaguy::rows::Reason;
 use mbelaguy::{base58, ids, Refusal, Section, Table};
 use std::collections::BTreeSet;
 
@@ -52,6 +53,14 @@ fn what_is_no_key() {
 fn names_of_ids() {
     assert_eq!(ids::name(&ids::WRAPPED_SOL), Some("wrapped SOL"));
     assert_eq!(ids::name(&ids::SYSTEM), None);
+}
+
+#[test]
+fn reasons_by_number() {
+    let known = (0..=u8::MAX).filter_map(|number| Some((number, Reason::of(number)?)));
+    assert!(known.eq((1..).zip(Reason::ALL)));
+    let words: BTreeSet<_> = Reason::ALL.iter().map(Reason::to_string).collect();
+    assert_eq!(words.len(), Reason::ALL.len());
 }
 
 #[test]

@@ -98,7 +98,8 @@ impl Row for Invocation {
             parent,
             reason,
         };
-        // Also refuses unknown bits, and a bit 'own leg' that does not go with the leg's number.
+        // Also refuses unknown bits, and bits 'own leg' and 'own transfer' that do not go with the leg's
+        // number and the reason.
         let sound = invocation.bits() == bits && invocation.own_transfer == reason.is_none();
         sound.then_some(invocation)
     }

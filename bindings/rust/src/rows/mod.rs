@@ -61,8 +61,8 @@ pub trait Row: Sized {
     /// The table whose row it is.
     const TABLE: Table;
 
-    /// The row: `None` where a flag, mark, protocol, kind or mode has no meaning, or a mint is not the
-    /// one of table 0.
+    /// The row: `None` where a flag, mark, reason, protocol, kind or mode has no meaning, or a mint is
+    /// not the one of table 0.
     #[doc(hidden)]
     fn read_fields(reader: &mut Reader<'_>, tables: &Tables) -> Option<Self>;
 }
