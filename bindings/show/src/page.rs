@@ -93,8 +93,7 @@ impl Page {
             words::position(&node.invocation)
         );
         let deep = (node.depth > INDENTED).then(|| format!("depth {}", node.depth));
-        let notes = words::notes(&node.invocation).into_iter().map(String::from);
-        for note in deep.into_iter().chain(notes) {
+        for note in deep.into_iter().chain(words::notes(&node.invocation)) {
             html += &format!(" <span class=\"note\">{note}</span>");
         }
         html += "</p></div>";

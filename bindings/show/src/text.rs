@@ -58,7 +58,7 @@ fn tree(nodes: &[Node], texts: &Texts) -> Vec<String> {
         };
         let program = phrase(&[words::program(node)], texts);
         let mut about = vec![words::position(&node.invocation)];
-        about.extend(words::notes(&node.invocation).into_iter().map(String::from));
+        about.extend(words::notes(&node.invocation));
         let about = about.join(", ");
         lines.push(format!("  {number:width$}  {guides}{branch}{depth}{program}  [{about}]"));
         going_on.push(node.has_next);

@@ -2,7 +2,9 @@
 //! keys as it likes.
 
 use crate::report::{Deed, Node, Program, Report};
-use mbelaguy::rows::{Action, Invocation, Lack, Leg, Mark, Mint, MintRow, Native, Transfer};
+use mbelaguy::rows::{
+    Action, Invocation, Lack, Leg, Mark, Mint, MintRow, Native, Reason, Transfer,
+};
 use mbelaguy::{ids, Key};
 
 /// A part of a phrase.
@@ -95,14 +97,17 @@ pub fn position(invocation: &Invocation) -> String {
     }
 }
 
-/// What the bits of an invocation tell that its own transfer and leg do not.
-pub fn notes(invocation: &Invocation) -> Vec<&'static str> {
+/// What the row of an invocation tells that its own transfer and leg do not. Why it gave no transfer is
+/// told of token programs alone: of others nobody expects one.
+pub fn notes(invocation: &Invocation) -> Vec<String> {
     let notes = [
         (invocation.swaps_inside, "swaps inside"),
         (invocation.transfers_inside, "transfers inside"),
         (invocation.skipped, "skipped for routes"),
     ];
-    notes.into_iter().filter(|(holds, _)| *holds).map(|(_, note)| note).collect()
+    let notes = notes.into_iter().filter(|(holds, _)| *holds).map(|(_, note)| note.to_string());
+    let reason = invocation.reason.filter(|reason| *reason != Reason::NotToken);
+    notes.chain(reason.map(|reason| format!("no transfer: {reason}"))).collect()
 }
 
 /// What an invocation did, in one phrase or more.

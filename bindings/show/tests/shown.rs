@@ -1,7 +1,7 @@
 //! What is printed of tables made by hand. The sample's text is checked in compare/, by the oracle.
 
 use mbelaguy::pack::{Balance, Group, Inner, Instruction, KeyRow, Pack};
-use mbelaguy::rows::Invocation;
+use mbelaguy::rows::{Invocation, Reason};
 use mbelaguy::{base58, ids, Answer, Key, Refusal, Tables};
 use show::{page, text, Keys, Report};
 
@@ -38,6 +38,7 @@ fn tree(parents: &[u32]) -> Report {
         rows.push(Invocation::RESOLVED);
         rows.extend(0u32.to_le_bytes());
         rows.extend(parent.to_le_bytes());
+        rows.push(Reason::NotToken.number());
     }
     let answer = Answer { counts: [0, all, 0, 0, 0], ..Answer::default() };
     report(&pack, answer, [vec![], rows, vec![], vec![], vec![]])
@@ -96,7 +97,7 @@ fn deeds() -> Report {
     let mint = |key: Key| [&[1][..], &key].concat();
     let (one, three) = ([1; 32], [3; 32]);
     let mints = [&one[..], &ids::WRAPPED_SOL, &[1]].concat();
-    let invocation = [&[0; 9][..], &[1, 1, 0, 0, 0, 1, 0, 0, 0, 48, 1, 0, 0, 0], &[0; 4]].concat();
+    let invocation = [&[0; 9][..], &[1, 1, 0, 0, 0, 1, 0, 0, 0, 48, 1, 0, 0, 0], &[0; 5]].concat();
     let amount = [7, 0, 0, 0, 0, 0, 0, 0];
     let transfer =
         [&[0; 4][..], &ids::SPL_TOKEN, &three, &one, &[0; 33], &amount, &[0; 9]].concat();
@@ -222,6 +223,50 @@ Invocations
     let (shown, depths) = drawn(&[1, 3, 2, u32::MAX, 4]);
     assert_eq!(shown, expected);
     assert_eq!(depths, [0, 0, 1, 0, 1]);
+}
+
+/// Outer instructions with reasons 0 to 5: of a token program but for reason 1.
+fn reasons() -> Report {
+    let instruction = |program| Instruction { program, ..Instruction::default() };
+    let pack = Pack {
+        keys: [ids::SPL_TOKEN, ids::MEMO, ids::TOKEN_2022].map(key_row).to_vec(),
+        outer: [0, 1, 0, 2, 0, 2].map(instruction).to_vec(),
+        ..Pack::default()
+    };
+    let row = |reason: u8| {
+        let transfer = if reason == 0 { Invocation::OWN_TRANSFER } else { 0 };
+        let bits = Invocation::SKIPPED | Invocation::RESOLVED | transfer;
+        [&[reason][..], &[0; 17], &[bits], &[0; 8], &[reason]].concat()
+    };
+    let answer = Answer { counts: [0, 6, 0, 0, 0], ..Answer::default() };
+    let rows = [0, 1, 2, 3, 4, 5].map(row).concat();
+    report(&pack, answer, [vec![], rows, vec![], vec![], vec![]])
+}
+
+#[test]
+fn a_token_program_that_gave_no_transfer_has_its_reason() {
+    let expected = "\
+Invocations
+  0  SPL Token  [outer 0, skipped for routes]
+  1  Memo  [outer 1, skipped for routes]
+  2  SPL Token  [outer 2, skipped for routes, no transfer: another kind of instruction]
+  3  Token-2022  [outer 3, skipped for routes, no transfer: too few accounts for this kind of transfer]
+  4  SPL Token  [outer 4, skipped for routes, no transfer: data too short for this kind of transfer]
+  5  Token-2022  [outer 5, skipped for routes, no transfer: the key of source, destination or mint is missing or zero]
+";
+    let shown = text(&reasons(), Keys::Short);
+    assert!(shown.ends_with(expected), "{shown}");
+    // The page has the same after each program: where it stands, and the notes.
+    let page = page("reasons", &Ok(reasons()), Keys::Short);
+    let about = |item: &str| {
+        let spans = item.split("<span class=\"").filter_map(|span| span.split_once("\">"));
+        let spans = spans.filter(|(class, _)| ["position", "note"].contains(class));
+        let words = spans.filter_map(|(_, words)| words.split("</span>").next());
+        words.collect::<Vec<_>>().join(", ")
+    };
+    let items: Vec<_> = page.lines().filter(|line| line.starts_with("<li ")).map(about).collect();
+    let lines = expected.lines().filter_map(|line| line.split(['[', ']']).nth(1));
+    assert_eq!(items, lines.collect::<Vec<_>>());
 }
 
 #[test]
