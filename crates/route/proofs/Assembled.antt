@@ -54,9 +54,9 @@ tells-present : {r : ℕ} {o : Option Transfer} → Tells r o → eqb r 0 ≡ pr
 tells-present {r} (because h k) = ne-eqb r 0 (λ e. omega arith)
 tells-present gives = refl
 
-moves : (ks : List ℕ) (x : Instruction) → eqb (reasonIn ks x) 0 ≡ present (transferOf ks x)
+pub reason-present : (ks : List ℕ) (x : Instruction) → eqb (reasonIn ks x) 0 ≡ present (transferOf ks x)
 unfolding reasonIn transferOf
-moves ks x = tells-present (reason-tells (keyOf ks) (programOf ks x) (x .accounts) (x .bytes))
+reason-present ks x = tells-present (reason-tells (keyOf ks) (programOf ks x) (x .accounts) (x .bytes))
 
 leg-number : (s : Bool) (m : ℕ) → cond s 1 0 * suc m ≡ cond s (suc m) 0
 leg-number true m = one-mul (suc m)
@@ -116,7 +116,7 @@ module _ (names ks p : List ℕ) (pools : List Key) (table : List MintRow) (n : 
   own-is : (i : ℕ) → i < n → ownAt reasons leg i ≡ ownOf names ks pools table (itemAt p at i)
   unfolding ownAt ownOf
   own-is i h =
-      rw (g .reasoned i h, leg-is i h) (own-bits (reasonIn ks (itemAt p at i)) (present (legOf names ks pools table (itemAt p at i))) (before i) ∙ rw (moves ks (itemAt p at i)))
+      rw (g .reasoned i h, leg-is i h) (own-bits (reasonIn ks (itemAt p at i)) (present (legOf names ks pools table (itemAt p at i))) (before i) ∙ rw (reason-present ks (itemAt p at i)))
 
   owns-same : (y : ℕ) → y < length ps → getD (ownsOf reasons leg (length ps)) y 0 ≡ getD (map (ownOf names ks pools table) xs) y 0
   owns-same y h =
@@ -134,7 +134,7 @@ module _ (names ks p : List ℕ) (pools : List Key) (table : List MintRow) (n : 
   unfolding bitsAt flagsOf
   flags-is i h =
       rw
-      (inside-is i h, g .known i h, here i h, g .reasoned i h, leg-is i h, flag-bits (reasonIn ks (itemAt p at i)) (present (legOf names ks pools table (itemAt p at i))) (before i), moves ks (itemAt p at i))
+      (inside-is i h, g .known i h, here i h, g .reasoned i h, leg-is i h, flag-bits (reasonIn ks (itemAt p at i)) (present (legOf names ks pools table (itemAt p at i))) (before i), reason-present ks (itemAt p at i))
       (add-assoc _ _ _)
 
   number-is : (i : ℕ) → i < n → getD leg i 0 ≡ legNumber names ks pools table xs i
