@@ -1,5 +1,6 @@
-//! The deliberate breaks of the month totals (src/month/plain.rs), by where they stand. Each is behind
-//! a switch of its own, so that one compiled copy serves for all of them.
+//! The deliberate breaks of the month totals (src/month/plain.rs) and of the reasons
+//! (src/oracle/reason.rs), by where they stand. Each is behind a switch of its own, so that one compiled
+//! copy serves for all those of a file.
 
 /// In `place`, which the text holds once, the expression `right` becomes one of the wrong ones when
 /// that is switched on. Places do not overlap.
@@ -10,7 +11,7 @@ pub struct Site {
     pub wrong: &'static [(&'static str, &'static str)],
 }
 
-pub const SITES: &[Site] = &[
+pub const MONTH: &[Site] = &[
     // 19: the table.
     Site {
         place: "transfers.len() % TRANSFER == 0\n",
@@ -301,5 +302,170 @@ pub const SITES: &[Site] = &[
         place: "row[..66].copy_from_slice(line)",
         right: "row[..66].copy_from_slice(line)",
         wrong: &[("what is behind a flag of 0 in a report is cleared", "{ row[..66].copy_from_slice(line); if line[33] == 0 { row[34..66].fill(0) } }")],
+    },
+];
+
+pub const REASON: &[Site] = &[
+    // 1: the program.
+    Site {
+        place: "keys.get(*program as usize).filter(|row| row.whole)",
+        right: "keys.get(*program as usize).filter(|row| row.whole)",
+        wrong: &[
+            ("a key with flag 0 is a token program", "keys.get(*program as usize)"),
+            ("the index of a token program is cut to a byte", "keys.get(*program as usize % 256).filter(|row| row.whole)"),
+            ("the index of a token program is cut to 16 bits", "keys.get(*program as usize % 65_536).filter(|row| row.whole)"),
+        ],
+    },
+    Site {
+        place: "if resolved != Some(spl_token) && resolved != Some(token_2022) {",
+        right: "resolved != Some(spl_token) && resolved != Some(token_2022)",
+        wrong: &[
+            ("SPL Token is not a token program", "resolved != Some(token_2022)"),
+            ("Token-2022 is not a token program", "resolved != Some(spl_token)"),
+        ],
+    },
+    Site {
+        place: "return 1;",
+        right: "1",
+        wrong: &[
+            ("an unresolved program is an unsupported tag", "if resolved.is_none() { 2 } else { 1 }"),
+            ("another program is an unsupported tag", "if resolved.is_some() { 2 } else { 1 }"),
+            ("empty data is looked at before the program", "if data.is_empty() { 2 } else { 1 }"),
+        ],
+    },
+    // 2: the tag.
+    Site {
+        place: "=> (3, 9, &[0, 1])",
+        right: "(3, 9, &[0, 1])",
+        wrong: &[
+            ("two accounts are enough for tag 3", "(2, 9, &[0, 1])"),
+            ("tag 3 needs four accounts", "(4, 9, &[0, 1])"),
+            ("eight bytes are enough for tag 3", "(3, 8, &[0, 1])"),
+            ("tag 3 needs ten bytes", "(3, 10, &[0, 1])"),
+            ("the source of tag 3 is not looked at", "(3, 9, &[1])"),
+            ("the destination of tag 3 is not looked at", "(3, 9, &[0])"),
+            ("the third account of tag 3 is looked at", "(3, 9, &[0, 1, 2])"),
+        ],
+    },
+    Site {
+        place: "=> (4, 10, &[0, 2, 1])",
+        right: "(4, 10, &[0, 2, 1])",
+        wrong: &[
+            ("three accounts are enough for tag 12", "(3, 10, &[0, 2, 1])"),
+            ("tag 12 needs five accounts", "(5, 10, &[0, 2, 1])"),
+            ("nine bytes are enough for tag 12", "(4, 9, &[0, 2, 1])"),
+            ("tag 12 needs eleven bytes", "(4, 11, &[0, 2, 1])"),
+            ("the source of tag 12 is not looked at", "(4, 10, &[2, 1])"),
+            ("the destination of tag 12 is not looked at", "(4, 10, &[0, 1])"),
+            ("the mint of tag 12 is not looked at", "(4, 10, &[0, 2])"),
+            ("the fourth account of tag 12 is looked at", "(4, 10, &[0, 2, 1, 3])"),
+        ],
+    },
+    Site {
+        place: "if resolved == Some(token_2022) &&",
+        right: "resolved == Some(token_2022)",
+        wrong: &[("tag 26 under SPL Token is one of Token-2022", "true")],
+    },
+    Site {
+        place: "&& data.get(1) == Some(&1)",
+        right: "data.get(1) == Some(&1)",
+        wrong: &[
+            ("the second byte of tag 26 is not looked at", "true"),
+            ("a missing second byte of tag 26 passes", "data.get(1).is_none_or(|second| *second == 1)"),
+            ("a second byte of 0 passes", "data.get(1).is_some_and(|second| *second < 2)"),
+            ("a second byte of 2 passes", "matches!(data.get(1), Some(1 | 2))"),
+        ],
+    },
+    Site {
+        place: "=> (4, 19, &[0, 2, 1])",
+        right: "(4, 19, &[0, 2, 1])",
+        wrong: &[
+            ("three accounts are enough for tag 26", "(3, 19, &[0, 2, 1])"),
+            ("tag 26 needs five accounts", "(5, 19, &[0, 2, 1])"),
+            ("eighteen bytes are enough for tag 26", "(4, 18, &[0, 2, 1])"),
+            ("tag 26 needs twenty bytes", "(4, 20, &[0, 2, 1])"),
+            ("the source of tag 26 is not looked at", "(4, 19, &[2, 1])"),
+            ("the destination of tag 26 is not looked at", "(4, 19, &[0, 1])"),
+            ("the mint of tag 26 is not looked at", "(4, 19, &[0, 2])"),
+            ("the fourth account of tag 26 is looked at", "(4, 19, &[0, 2, 1, 3])"),
+        ],
+    },
+    Site {
+        place: "_ => return 2,",
+        right: "2",
+        wrong: &[
+            ("an unsupported tag has no reason", "0"),
+            ("an unsupported tag is not one of a token program", "1"),
+            ("empty data is too short", "if data.is_empty() { 4 } else { 2 }"),
+            ("tag 26 alone is too short", "if data[..] == [26] { 4 } else { 2 }"),
+            (
+                "tag 26 under SPL Token has too few accounts",
+                "if data.first() == Some(&26) && resolved == Some(spl_token) { 3 } else { 2 }",
+            ),
+            (
+                "another second byte of tag 26 is too short data",
+                "if data.first() == Some(&26) && resolved == Some(token_2022) { 4 } else { 2 }",
+            ),
+            ("few accounts are told before the tag", "if accounts.len() < 3 { 3 } else { 2 }"),
+        ],
+    },
+    // 3 to 5, and their order.
+    Site {
+        place: "if accounts.len() < least_accounts {",
+        right: "accounts.len() < least_accounts",
+        wrong: &[("accounts are tested after data", "accounts.len() < least_accounts && data.len() >= least_bytes")],
+    },
+    Site {
+        place: "return 3;",
+        right: "3",
+        wrong: &[
+            ("too few accounts are told as too short data", "4"),
+            (
+                "zero keys are told before too few accounts",
+                "if accounts.iter().any(|at| keys.get(usize::from(*at)).is_none_or(|row| row.key == [0; 32])) { 5 } else { 3 }",
+            ),
+        ],
+    },
+    Site {
+        place: "return 4;",
+        right: "4",
+        wrong: &[
+            ("too short data is told as too few accounts", "3"),
+            (
+                "zero keys are told before too short data",
+                "if accounts.iter().any(|at| keys.get(usize::from(*at)).is_none_or(|row| row.key == [0; 32])) { 5 } else { 4 }",
+            ),
+        ],
+    },
+    Site {
+        place: "keys.get(usize::from(accounts[place]))",
+        right: "keys.get(usize::from(accounts[place]))",
+        wrong: &[
+            ("a key with flag 0 is missing", "keys.get(usize::from(accounts[place])).filter(|row| row.whole)"),
+        ],
+    },
+    Site {
+        place: "unwrap_or([0; 32]) ==",
+        right: "[0; 32]",
+        wrong: &[("a missing key is not zero", "[1; 32]")],
+    },
+    Site {
+        place: "|place| key(*place).unwrap_or",
+        right: "key(*place)",
+        wrong: &[
+            ("a zero key is told only where it is missing", "if key(*place).is_none() { None } else { Some([1; 32]) }"),
+            (
+                "a zero key is told only where the checked mint is missing",
+                "if *place == 1 && places.len() == 3 && key(*place).is_none() { None } else { Some([1; 32]) }",
+            ),
+        ],
+    },
+    Site {
+        place: "return 5;",
+        right: "5",
+        wrong: &[
+            ("a zero key has no reason", "0"),
+            ("a missing key is told as too few accounts", "if places.iter().any(|place| key(*place).is_none()) { 3 } else { 5 }"),
+        ],
     },
 ];

@@ -33,8 +33,8 @@ pub fn files() -> [(&'static str, Vec<u8>); 2] {
     [("stdin", records.flatten().collect()), ("stdout", printed.into_bytes())]
 }
 
-/// For each feature that must occur the shortest record that shows it; for each deliberate break of
-/// the original that none of these notices the first that does; and the first short ones.
+/// For each feature that must occur the shortest record that shows it; for each deliberate break that
+/// none of these notices the first that does; and the first short ones.
 fn seeds() -> BTreeSet<u64> {
     let mut shortest: BTreeMap<String, (usize, u64)> = BTreeMap::new();
     let mut short = Vec::new();

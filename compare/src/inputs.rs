@@ -26,6 +26,7 @@ fn inputs() -> Result<Vec<(&'static str, Vec<u8>)>, String> {
         ("no_pack", unnamed(&[])),
         ("inner_cut", unnamed(&join(&inner_cut))),
         ("height_absent", unnamed(&pack(&height_absent())?)),
+        ("reasons", unnamed(&pack(&reasons())?)),
         ("transfers_401", unnamed(&pack(&transfers(401))?)),
         ("longest", unnamed(&pack(&filled(MAX_BYTES))?)),
         ("too_long", unnamed(&pack(&filled(MAX_BYTES + 1))?)),
@@ -51,6 +52,18 @@ fn height_absent() -> Pack {
         groups: vec![Group { outer: 0, instructions: vec![inner(Some(2)), inner(None)] }],
         ..Pack::default()
     }
+}
+
+/// A plain transfer, and for each reason in turn one that it keeps from being a transfer.
+fn reasons() -> Pack {
+    let mut pack = transfers(6);
+    let outer = &mut pack.outer;
+    outer[1].program = pack.keys.len() as u32;
+    outer[2].data.clear();
+    outer[3].accounts.pop();
+    outer[4].data.pop();
+    outer[5].accounts[0] = pack.keys.len() as u8;
+    pack
 }
 
 /// So many plain transfers.

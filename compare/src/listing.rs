@@ -28,8 +28,9 @@ fn print(Reply { answer, tables }: &Reply) -> String {
             _ => number(flag + 1).to_string(),
         };
         let (inner, height) = (optional(4), optional(9));
-        let (outer, end, bits, parent) = (number(0), number(14), row[18], number(23));
-        writeln!(text, "{outer} {inner} {height} {end} {bits} {parent}")
+        let (outer, end, parent) = (number(0), number(14), number(23));
+        let (bits, reason) = (row[18], row[27]);
+        writeln!(text, "{outer} {inner} {height} {end} {bits} {parent} {reason}")
             .expect("a string takes every line");
     }
     text

@@ -6,7 +6,7 @@
 //! | lengths of names, pack and tables 0 to 4 | 28 |
 //! | names, pack | as long as said |
 //! | number, place, row counts of tables 0 to 4, passes, tests | 36 |
-//! | used rows of tables 0 to 4, one table after the other | counts times 65, 27, 150, 250, 109 |
+//! | used rows of tables 0 to 4, one table after the other | counts times 65, 28, 150, 250, 109 |
 //!
 //! All bytes of a table behind its used rows are 0 and are not stored.
 

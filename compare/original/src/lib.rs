@@ -9,7 +9,7 @@ pub mod facts;
 pub mod ids;
 pub mod names;
 mod stand_ins;
-mod switch;
+pub mod switch;
 
 pub use facts::Facts;
 pub use ids::ids;

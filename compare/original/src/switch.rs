@@ -1,4 +1,5 @@
-//! Which deliberate break of the mutated copy is on, on this thread.
+//! Which deliberate break is on, on this thread: of the copy that is called next, as each call chooses
+//! anew.
 
 use std::cell::Cell;
 

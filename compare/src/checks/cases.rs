@@ -31,6 +31,7 @@ pub const CASES: &[Example] = &[
     ("doubt does not pass an ambiguous account", doubt_stops_at_ambiguous),
     ("a checked transfer without a row records", checked_without_row),
     ("a zero program is System only when resolved", zero_program),
+    ("why no transfer: the first test that fails", first_test),
 ];
 
 /// Where the fourteen ids stand in the keys of `pack`, after 64 other keys.
@@ -81,6 +82,12 @@ fn count(pack: &Pack, table: usize) -> Result<u32, String> {
     Ok(reply(pack)?.answer.counts[table])
 }
 
+/// The reason of each invocation.
+fn reasons(reply: &Reply) -> Vec<u8> {
+    let rows = reply.tables[1].chunks_exact(WIDTHS[1]).take(reply.answer.counts[1] as usize);
+    rows.map(|row| row[27]).collect()
+}
+
 fn amm_keys(accounts: usize, trader: u8, input: u8, output: u8) -> Outcome {
     let reply = reply(&pack(vec![instruction(AMM_V4, accounts, vec![9; 17])]))?;
     same("legs", reply.answer.counts[3], 1)?;
@@ -120,6 +127,7 @@ fn blocks(heights: [Option<u32>; 2], ends: [u8; 3], parents: [u8; 3], tests: u32
     let field = |at: usize| [0, 1, 2].map(|i| reply.tables[1][i * WIDTHS[1] + at]);
     same("ends", field(14), ends)?;
     same("parents", field(23), parents)?;
+    same("reasons", reasons(&reply), vec![1; 3])?;
     same("tests", reply.answer.tests, tests)
 }
 
@@ -151,14 +159,17 @@ fn g() -> Outcome {
     let outer = vec![transfer(0, 1, 10), transfer(0, 1, 11)];
     let reply = reply(&Pack { groups, ..pack(outer) })?;
     let amounts = reply.tables[2].chunks_exact(WIDTHS[2]).take(5).map(|row| row[133]).collect();
-    same("amounts in execution order", amounts, vec![10, 2, 11, 1, 3])
+    same("amounts in execution order", amounts, vec![10, 2, 11, 1, 3])?;
+    same("reasons", reasons(&reply), vec![0; 5])
 }
 
 fn h() -> Outcome {
-    for (length, transfers) in [(18, 0), (19, 1)] {
+    for (length, transfers, reason) in [(18, 0, 4), (19, 1, 0)] {
         let mut data = vec![26, 1];
         data.resize(length, 0);
-        same("transfers", count(&pack(vec![instruction(TOKEN_2022, 4, data)]), 2)?, transfers)?;
+        let reply = reply(&pack(vec![instruction(TOKEN_2022, 4, data)]))?;
+        same("transfers", reply.answer.counts[2], transfers)?;
+        same("reasons", reasons(&reply), vec![reason])?;
     }
     Ok(())
 }
@@ -181,7 +192,9 @@ fn j() -> Outcome {
 
 fn k() -> Outcome {
     for (data, mints) in [(vec![1], 1), (vec![1, 0], 0)] {
-        same("mints", count(&pack(vec![instruction(SPL_TOKEN, 2, data)]), 0)?, mints)?;
+        let reply = reply(&pack(vec![instruction(SPL_TOKEN, 2, data)]))?;
+        same("mints", reply.answer.counts[0], mints)?;
+        same("reasons", reasons(&reply), vec![2])?;
     }
     Ok(())
 }
@@ -190,7 +203,7 @@ fn printed_listing() -> Outcome {
     let bytes = with_heights([Some(2), Some(3)]).write().map_err(|error| format!("{error:?}"))?;
     let starts: Vec<_> = bytes[40..60].chunks(4).map(|start| start[0]).collect();
     same("starts", starts, vec![0, 0, 0, 8, 40])?;
-    let lines = "ok 0 3 0 0 0 passes 0 tests 2\n0 - 1 3 0 0\n0 0 2 3 0 1\n0 1 3 3 0 2\n";
+    let lines = "ok 0 3 0 0 0 passes 0 tests 2\n0 - 1 3 0 0 1\n0 0 2 3 0 1 1\n0 1 3 3 0 2 1\n";
     same("listing", listing(&[&[0; 88][..], &bytes].concat()), lines.to_string())
 }
 
@@ -267,6 +280,7 @@ fn checked_without_row() -> Outcome {
     let checked = Instruction { program: SPL_TOKEN, accounts, data: vec![12; 10] };
     let reply = reply(&pack(vec![checked]))?;
     same("rows", reply.answer.counts, [1, 1, 0, 0, 0])?;
+    same("reasons", reasons(&reply), vec![5])?;
     same("account 2 has mint 1", &reply.tables[0][..65], &[&key(2)[..], &key(1), &[0]].concat()[..])
 }
 
@@ -274,5 +288,28 @@ fn zero_program() -> Outcome {
     let outer = (0..3).map(|program| instruction(program, 0, vec![])).collect();
     let keys = [true, false].map(|whole| KeyRow { whole, key: [0; 32] }).to_vec();
     let reply = reply(&Pack { keys, outer, ..Pack::default() })?;
-    same("bits", [0, 1, 2].map(|i| reply.tables[1][i * WIDTHS[1] + 18]), [12, 0, 0])
+    same("bits", [0, 1, 2].map(|i| reply.tables[1][i * WIDTHS[1] + 18]), [12, 0, 0])?;
+    same("reasons", reasons(&reply), vec![1; 3])
+}
+
+/// Initialise, sync and close are no transfers; a short instruction with too few accounts has too few
+/// accounts.
+fn first_test() -> Outcome {
+    let short = |program, accounts, data: &[u8]| instruction(program, accounts, data.to_vec());
+    let tests = [
+        (short(AMM_V4, 2, &[3]), 1),
+        (short(SPL_TOKEN, 2, &[]), 2),
+        (short(SPL_TOKEN, 2, &[1]), 2),
+        (short(SPL_TOKEN, 1, &[17]), 2),
+        (short(SPL_TOKEN, 3, &[9]), 2),
+        (short(SPL_TOKEN, 4, &[26, 1]), 2),
+        (short(TOKEN_2022, 4, &[26]), 2),
+        (short(TOKEN_2022, 3, &[26, 1]), 3),
+        (short(SPL_TOKEN, 2, &[3]), 3),
+        (short(SPL_TOKEN, 3, &[3]), 4),
+        (transfer(0, 255, 1), 5),
+        (transfer(0, 1, 1), 0),
+    ];
+    let (instructions, expected): (Vec<_>, Vec<u8>) = tests.into_iter().unzip();
+    same("reasons", reasons(&reply(&pack(instructions))?), expected)
 }

@@ -1,5 +1,5 @@
-//! The stored answers in crates/replay are those that the program chooses, and each deliberate break
-//! of the original is noticed by one of them.
+//! The stored answers in crates/replay are those that the program chooses, and each deliberate break is
+//! noticed by one of them.
 
 use super::{hold, mutants, Outcome};
 use crate::chosen::files;
@@ -15,8 +15,8 @@ pub fn committed() -> Outcome {
     Ok(())
 }
 
-/// For each deliberate break of the original, by name, the first stored answer that notices it. A
-/// damaged answer is not the original's and does not count.
+/// For each deliberate break, by name, the first stored answer that notices it. A damaged answer is not
+/// the oracle's and does not count.
 pub fn first_noticed() -> Result<Vec<(&'static str, Option<u64>)>, String> {
     let bytes = found("stdin")?;
     let mut rest = &bytes[..];

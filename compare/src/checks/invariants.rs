@@ -3,8 +3,8 @@
 use super::{hold, same, Outcome};
 use crate::generate::Case;
 use crate::oracle::mints::Mints;
-use crate::oracle::{blocks, Examined, Reply};
-use mbelaguy::pack::Step;
+use crate::oracle::{blocks, feed, Examined, Reply};
+use mbelaguy::pack::{Instruction, Step};
 use mbelaguy::{Refusal, MAX_INVOCATIONS, MAX_KEYS, WIDTHS};
 use original::facts::{Invocation, Key};
 use original::ids::WRAPPED_SOL;
@@ -50,7 +50,7 @@ fn number(row: &[u8], at: usize) -> u32 {
     u32::from_le_bytes(row[at..at + 4].try_into().expect("four bytes"))
 }
 
-/// Bits 16 and 32, leg numbers and inside bits against the rows of tables 2 and 3.
+/// Bits 16 and 32, leg numbers, reasons and inside bits against the rows of tables 2 and 3.
 fn own_rows(reply: &Reply) -> Outcome {
     let owners = |t| rows(reply, t).map(|row| number(row, 0)).collect::<Vec<_>>();
     let (transfers, legs) = (owners(2), owners(3));
@@ -65,6 +65,8 @@ fn own_rows(reply: &Reply) -> Outcome {
         same("swaps inside", bits & 2 != 0, some_in(&legs, i + 1, end))?;
         same("own leg", bits & 16 != 0, some_in(&legs, i, i + 1))?;
         same("own transfer", bits & 32 != 0, some_in(&transfers, i, i + 1))?;
+        same("a transfer has no reason, all others have one", row[27] == 0, bits & 32 != 0)?;
+        hold("reasons", row[27] <= 5)?;
         let leg = legs.binary_search(&i).map_or(0, |leg| leg as u32 + 1);
         same("leg number", number(row, 19), leg)?;
         hold("skipped programs are resolved", bits & 4 == 0 || bits & 8 != 0)?;
@@ -159,6 +161,62 @@ fn counted_tests(invocations: &[Invocation]) -> usize {
         ends[i] = end;
     }
     tests
+}
+
+/// Reasons a second way, with the original as the judge: how much of a token instruction has to be mended
+/// until it is a transfer. Keys are mended first, then data, then accounts.
+pub fn reasons(examined: &Examined) -> Outcome {
+    let [spl_token, token_2022, ..] = original::ids();
+    let [keys, data, accounts] =
+        [mend_keys, mend_data, mend_accounts].map(|mend| transfers_if(mend, examined));
+    for (i, one) in examined.facts.invocations.iter().enumerate() {
+        let reason = if one.program != spl_token && one.program != token_2022 {
+            1
+        } else if one.transfer.is_some() {
+            0
+        } else if keys[i] {
+            5
+        } else if data[i] {
+            4
+        } else if accounts[i] {
+            3
+        } else {
+            2
+        };
+        same("reason by what has to be mended", examined.reasons[i], reason)?;
+    }
+    Ok(())
+}
+
+/// Whether the original finds a transfer in each invocation, were all instructions mended.
+fn transfers_if(mend: fn(&mut Instruction), examined: &Examined) -> Vec<bool> {
+    let mut pack = examined.pack.clone();
+    let inner = pack.groups.iter_mut().flat_map(|group| &mut group.instructions);
+    let inner = inner.map(|inner| &mut inner.instruction);
+    pack.outer.iter_mut().chain(inner).for_each(mend);
+    let facts = feed::facts_of(&pack, &original::facts);
+    facts.invocations.iter().map(|one| one.transfer.is_some()).collect()
+}
+
+/// All accounts are the token program, whose key is neither missing nor zero.
+fn mend_keys(instruction: &mut Instruction) {
+    instruction.accounts.fill(instruction.program as u8);
+}
+
+/// Data that has a tag is long enough as well.
+fn mend_data(instruction: &mut Instruction) {
+    mend_keys(instruction);
+    let data = &mut instruction.data;
+    if !data.is_empty() {
+        data.resize(data.len().max(19), 0);
+    }
+}
+
+/// The accounts are enough as well.
+fn mend_accounts(instruction: &mut Instruction) {
+    mend_data(instruction);
+    let accounts = &mut instruction.accounts;
+    accounts.resize(accounts.len().max(4), instruction.program as u8);
 }
 
 /// Final mints: by passes, and by the chains that reach an account; marks: by doubt that spreads.

@@ -1,7 +1,8 @@
-//! Whether calls notice when the original is broken on purpose.
+//! Whether calls notice when the original or the reasons are broken on purpose.
 
 use crate::generate::{case, Case};
-use crate::oracle::{examine_mutant, fit, Reply};
+use crate::oracle::broken::breaks;
+use crate::oracle::{examine_broken, fit, Reply};
 
 /// For each deliberate break, by name, the first of some seeds whose answer differs.
 pub fn first_noticed(seeds: impl Iterator<Item = u64>) -> Vec<(&'static str, Option<u64>)> {
@@ -12,25 +13,25 @@ pub fn first_noticed(seeds: impl Iterator<Item = u64>) -> Vec<(&'static str, Opt
     }))
 }
 
-/// The same of numbered calls with the original's answers.
+/// The same of numbered calls with the oracle's answers.
 pub fn first_of(
     calls: impl Iterator<Item = (u64, Case, Reply)>,
 ) -> Vec<(&'static str, Option<u64>)> {
-    let mut found: Vec<_> = original::MUTANTS.iter().map(|name| (*name, None)).collect();
+    let mut found: Vec<_> = breaks().map(|(name, broken)| (name, broken, None)).collect();
     for (call, case, reply) in calls {
-        if found.iter().all(|mutant| mutant.1.is_some()) {
+        if found.iter().all(|(_, _, first)| first.is_some()) {
             break;
         }
         // Refusals 1 to 7 are decided without the original.
         if matches!(reply.answer.number, 1..=7) {
             continue;
         }
-        for (number, (_, first)) in found.iter_mut().enumerate().filter(|one| one.1 .1.is_none()) {
-            let broken = examine_mutant(Some(number), &case.names, &case.pack);
+        for (_, broken, first) in found.iter_mut().filter(|(_, _, first)| first.is_none()) {
+            let broken = examine_broken(Some(*broken), &case.names, &case.pack);
             if fit(&broken, &case.lengths) != reply {
                 *first = Some(call);
             }
         }
     }
-    found
+    found.into_iter().map(|(name, _, first)| (name, first)).collect()
 }

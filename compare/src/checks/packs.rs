@@ -2,7 +2,7 @@
 
 use super::{invariants, rows, same, Outcome};
 use crate::generate::case;
-use crate::oracle::{examine_mutant, fit};
+use crate::oracle::{examine_broken, fit};
 use crate::stored;
 use std::ops::Range;
 
@@ -20,13 +20,14 @@ fn one(seed: u64) -> Outcome {
     if let Ok(examined) = &examined {
         same("written again", examined.pack.write(), Ok(case.pack.clone()))?;
         invariants::examined(examined)?;
+        invariants::reasons(examined)?;
         if reply.answer.number == 0 {
             rows::agree(examined, &reply, &case.pack)?;
         }
     }
     invariants::reply(&case, &examined, &reply)?;
-    let unbroken = examine_mutant(None, &case.names, &case.pack);
-    same("mutated copy, nothing switched on", fit(&unbroken, &case.lengths), reply.clone())?;
+    let unbroken = examine_broken(None, &case.names, &case.pack);
+    same("copies, nothing switched on", fit(&unbroken, &case.lengths), reply.clone())?;
     let stored = stored::write(&case, &reply);
     same("stored and read", stored::read(&stored), Some((case, reply, &[][..])))
 }

@@ -103,8 +103,8 @@ fn keys() -> Outcome {
 fn invocations() -> Outcome {
     refused(&write(&with_outers(1_025)), 6, 0)?;
     refused(&write(&with_outers(1_024)), 8, 1)?;
-    with_room(&write(&with_outers(1_024)), [0, 1_024 * 27 - 1, 0, 0, 0], 8, 1)?;
-    with_room(&write(&with_outers(1_024)), [0, 1_024 * 27, 0, 0, 0], 0, 0)
+    with_room(&write(&with_outers(1_024)), [0, 1_024 * 28 - 1, 0, 0, 0], 8, 1)?;
+    with_room(&write(&with_outers(1_024)), [0, 1_024 * 28, 0, 0, 0], 0, 0)
 }
 
 fn dropped() -> Outcome {
@@ -112,7 +112,7 @@ fn dropped() -> Outcome {
     for (outer, number) in [(1_023, 6), (1_024, 0)] {
         let groups = vec![Group { outer, instructions: vec![inner.clone()] }];
         let bytes = write(&Pack { groups, ..with_outers(1_024) });
-        with_room(&bytes, [0, 1_024 * 27, 0, 0, 0], number, 0)?;
+        with_room(&bytes, [0, 1_024 * 28, 0, 0, 0], number, 0)?;
     }
     Ok(())
 }
@@ -136,7 +136,7 @@ fn room() -> Outcome {
         ],
         ..Pack::default()
     });
-    let exact = [65, 4 * 27, 150, 250, 109];
+    let exact = [65, 4 * 28, 150, 250, 109];
     with_room(&bytes, exact, 0, 0)?;
     for table in 0..5 {
         let mut lengths = exact;

@@ -4,7 +4,9 @@
 use super::{hold, same, Outcome};
 use crate::oracle::mints::Mints;
 use crate::oracle::{Examined, Reply};
-use mbelaguy::rows::{Action, Invocation, Lack, Leg, Mark, Mint, MintRow, Native, Transfer};
+use mbelaguy::rows::{
+    Action, Invocation, Lack, Leg, Mark, Mint, MintRow, Native, Reason, Transfer,
+};
 use mbelaguy::{Key, Tables};
 use original::facts;
 
@@ -27,7 +29,9 @@ pub fn agree(examined: &Examined, reply: &Reply, pack: &[u8]) -> Outcome {
     same("invocations", tables.invocations().len(), facts.invocations.len())?;
     for ((number, row), invocation) in (0..).zip(tables.invocations()).zip(&facts.invocations) {
         let parent = examined.parents[number as usize];
-        same("invocation", row, invocation_row(invocation, parent))?;
+        let reason = examined.reasons[number as usize];
+        same("reason", row.reason.map_or(0, Reason::number), reason)?;
+        same("invocation", row, invocation_row(invocation, parent, row.reason))?;
         if let Some(transfer) = &invocation.transfer {
             same("transfer", transfers.next(), Some(transfer_row(number, transfer, known)))?;
         }
@@ -46,7 +50,12 @@ pub fn agree(examined: &Examined, reply: &Reply, pack: &[u8]) -> Outcome {
     same("rows left", (transfers.len(), legs.len(), natives.len()), (0, 0, 0))
 }
 
-fn invocation_row(invocation: &facts::Invocation, parent: Option<usize>) -> Invocation {
+/// The reason is compared by its number and taken from what was read.
+fn invocation_row(
+    invocation: &facts::Invocation,
+    parent: Option<usize>,
+    reason: Option<Reason>,
+) -> Invocation {
     Invocation {
         outer: invocation.outer,
         inner: invocation.inner,
@@ -59,6 +68,7 @@ fn invocation_row(invocation: &facts::Invocation, parent: Option<usize>) -> Invo
         own_transfer: invocation.transfer.is_some(),
         leg: invocation.leg.map(|leg| leg as u32),
         parent: parent.map(|parent| parent as u32),
+        reason,
     }
 }
 

@@ -1,16 +1,7 @@
 //! The month totals with deliberate breaks, each of which the comparison has to notice.
 
 use super::{Call, Reply};
-use std::cell::Cell;
-
-thread_local! {
-    static CHOSEN: Cell<Option<usize>> = const { Cell::new(None) };
-}
-
-/// Whether a break is switched on, on this thread.
-fn on(number: usize) -> bool {
-    CHOSEN.get() == Some(number)
-}
+use original::switch::choose;
 
 #[allow(warnings)]
 mod copy {
@@ -21,7 +12,7 @@ pub use copy::BREAKS;
 
 /// What a call gets with one of the breaks, or with none.
 pub fn answered(broken: Option<usize>, call: &Call) -> Reply {
-    CHOSEN.set(broken);
+    choose(broken);
     let mut report = call.report.clone();
     let copy::Answer { number, place, rows, fed } =
         copy::month(&mut report, call.rows, call.fed, &call.transfers);

@@ -1,15 +1,19 @@
 //! The oracle: names, pack and five table lengths give the answer and the five tables.
 //!
 //! Refusals are decided here. Every ported answer comes from the original's functions (`original`).
-//! What the original does not have (marks, passes, room, parents, tests, the tables' bytes) follows its
-//! definition: `mints` and `blocks` work it out from what was recorded and from the ends of blocks.
+//! What the original does not have (marks, passes, room, parents, tests, reasons, the tables' bytes)
+//! follows its definition: `mints` and `blocks` work it out from what was recorded and from the ends of
+//! blocks, `reason` from the instruction.
 
 pub mod blocks;
+pub mod broken;
 pub mod feed;
 pub mod mints;
+pub mod reason;
 mod rows;
 
-use mbelaguy::pack::{self, Pack};
+use broken::Break;
+use mbelaguy::pack::{self, Instruction, KeyRow, Pack};
 use mbelaguy::{Answer, Refusal, Table, MAX_INVOCATIONS, MAX_KEYS, MAX_PASSES, WIDTHS};
 use mints::Mints;
 use original::names::Names;
@@ -31,6 +35,8 @@ pub struct Examined {
     /// The parent of each invocation.
     pub parents: Vec<Option<usize>>,
     pub tests: usize,
+    /// Why each invocation is no transfer, 0 where it is one.
+    pub reasons: Vec<u8>,
     /// Used rows of the five tables.
     pub rows: [Vec<u8>; 5],
     /// Rows of room needed: in table 0 ambiguous accounts count too.
@@ -44,19 +50,25 @@ pub fn reply(names: &[u8], bytes: &[u8], lengths: &[usize; 5]) -> Reply {
 
 /// What the original says about a pack, or a refusal from 1 to 7.
 pub fn examine(names: &[u8], bytes: &[u8]) -> Result<Examined, Refusal> {
-    examine_by(&original::facts, names, bytes)
+    examine_by(&original::facts, &reason::reason, names, bytes)
 }
 
-/// As `examine`, with the mutated copy in the original's place.
-pub fn examine_mutant(
-    mutant: Option<usize>,
+/// As `examine`, with the copies that have breaks in the place of the original and of the reasons.
+pub fn examine_broken(
+    broken: Option<Break>,
     names: &[u8],
     bytes: &[u8],
 ) -> Result<Examined, Refusal> {
-    let facts = |transaction: &_, meta: &_, graduated: &_| {
-        original::mutant_facts(mutant, transaction, meta, graduated)
+    let (of_original, of_reason) = match broken {
+        Some(Break::Original(number)) => (Some(number), None),
+        Some(Break::Reason(number)) => (None, Some(number)),
+        None => (None, None),
     };
-    examine_by(&facts, names, bytes)
+    let facts = |transaction: &_, meta: &_, graduated: &_| {
+        original::mutant_facts(of_original, transaction, meta, graduated)
+    };
+    let reason = |keys: &_, instruction: &_| broken::reason(of_reason, keys, instruction);
+    examine_by(&facts, &reason, names, bytes)
 }
 
 /// The answer and the tables, once the lengths are known: refusal 8 if one is too short.
@@ -95,7 +107,12 @@ impl Examined {
     }
 }
 
-fn examine_by(facts: &feed::FactsOf<'_>, names: &[u8], bytes: &[u8]) -> Result<Examined, Refusal> {
+fn examine_by(
+    facts: &feed::FactsOf<'_>,
+    reason: &dyn Fn(&[KeyRow], &Instruction) -> u8,
+    names: &[u8],
+    bytes: &[u8],
+) -> Result<Examined, Refusal> {
     let names: &Names = names.try_into().map_err(|_| Refusal::Names)?;
     let pack = pack::read(bytes)?;
     if pack.keys.len() > MAX_KEYS {
@@ -112,8 +129,10 @@ fn examine_by(facts: &feed::FactsOf<'_>, names: &[u8], bytes: &[u8]) -> Result<E
     }
     let ends: Vec<_> = facts.invocations.iter().map(|invocation| invocation.end).collect();
     let (parents, tests) = (blocks::parents(&ends), blocks::tests(&ends));
-    let rows = rows::tables(&facts, &mints, &parents);
+    let reason = |step: &pack::Step<'_>| reason(&pack.keys, step.instruction);
+    let reasons: Vec<_> = pack.steps().iter().map(reason).collect();
+    let rows = rows::tables(&facts, &mints, &parents, &reasons);
     let mut needs = std::array::from_fn(|t| rows[t].len() / WIDTHS[t]);
     needs[0] = mints.room;
-    Ok(Examined { pack, facts, mints, parents, tests, rows, needs })
+    Ok(Examined { pack, facts, mints, parents, tests, reasons, rows, needs })
 }

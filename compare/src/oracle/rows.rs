@@ -3,7 +3,12 @@
 use super::mints::Mints;
 use original::facts::{Action, Facts, Invocation, Key, Leg, Native, Transfer};
 
-pub fn tables(facts: &Facts, mints: &Mints, parents: &[Option<usize>]) -> [Vec<u8>; 5] {
+pub fn tables(
+    facts: &Facts,
+    mints: &Mints,
+    parents: &[Option<usize>],
+    reasons: &[u8],
+) -> [Vec<u8>; 5] {
     let mut tables: [Vec<u8>; 5] = Default::default();
     let [mint_rows, invocations, transfers, legs, natives] = &mut tables;
     for (account, mint) in &facts.mints {
@@ -11,8 +16,9 @@ pub fn tables(facts: &Facts, mints: &Mints, parents: &[Option<usize>]) -> [Vec<u
         mint_rows.extend(mint);
         mint_rows.push(mints.marks[account]);
     }
-    for ((number, invocation), parent) in (0u32..).zip(&facts.invocations).zip(parents) {
-        put_invocation(invocations, invocation, *parent);
+    let more = parents.iter().zip(reasons);
+    for ((number, invocation), (parent, reason)) in (0u32..).zip(&facts.invocations).zip(more) {
+        put_invocation(invocations, invocation, *parent, *reason);
         if let Some(transfer) = &invocation.transfer {
             put_transfer(transfers, number, transfer);
         }
@@ -26,7 +32,7 @@ pub fn tables(facts: &Facts, mints: &Mints, parents: &[Option<usize>]) -> [Vec<u
     tables
 }
 
-fn put_invocation(table: &mut Vec<u8>, invocation: &Invocation, parent: Option<usize>) {
+fn put_invocation(table: &mut Vec<u8>, invocation: &Invocation, parent: Option<usize>, reason: u8) {
     table.extend(invocation.outer.to_le_bytes());
     put_optional(table, invocation.inner.map(u32::to_le_bytes));
     put_optional(table, invocation.height.map(u32::to_le_bytes));
@@ -42,6 +48,7 @@ fn put_invocation(table: &mut Vec<u8>, invocation: &Invocation, parent: Option<u
     table.push(bits.iter().filter(|bit| bit.0).map(|bit| bit.1).sum());
     put_row_number(table, invocation.leg);
     put_row_number(table, parent);
+    table.push(reason);
 }
 
 fn put_transfer(table: &mut Vec<u8>, number: u32, transfer: &Transfer) {

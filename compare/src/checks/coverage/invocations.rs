@@ -31,8 +31,6 @@ impl Coverage {
         }
         if let [26, second, ..] = data[..] {
             self.note(&format!("tag 26 with second byte {second}"));
-            let whole = second == 1 && data.len() >= 19 && accounts >= 4;
-            self.note_if("with-fee data under SPL Token", whole && invocation.program == spl_token);
         }
         if let Some(transfer) = &invocation.transfer {
             let program = if invocation.program == spl_token { "SPL Token" } else { "Token-2022" };

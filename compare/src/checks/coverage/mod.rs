@@ -1,8 +1,10 @@
 //! What occurs among generated packs. Each feature has a name and is counted; the list of features
-//! that must occur stands here, the code that notes them in `packs` and `invocations`.
+//! that must occur stands here, the code that notes them in `packs` and `invocations`; of reasons both
+//! stand in `reasons`.
 
 mod invocations;
 mod packs;
+mod reasons;
 
 use crate::generate::swaps::{Form, FORMS};
 use crate::generate::{case, Case};
@@ -143,7 +145,6 @@ const SINGLE: &[&str] = &[
     "transfer with a mint",
     "transfer without a mint",
     "transfer to the same account",
-    "with-fee data under SPL Token",
     "tag 26 with second byte 0",
     "tag 26 with second byte 2",
     "System transfer of 11 bytes",
@@ -205,6 +206,7 @@ fn required() -> Vec<String> {
             names.push(format!("protocol {protocol}, exact in {input}"));
         }
     }
+    names.extend(reasons::required());
     names
 }
 
@@ -231,6 +233,7 @@ impl Coverage {
         self.note_doubt(examined);
         self.note_trees(examined);
         self.note_parents(examined);
+        self.note_reasons(examined);
         for invocation in &examined.facts.invocations {
             self.note_token(invocation);
             self.note_swap(case, examined, invocation);
