@@ -35,7 +35,17 @@ const ZERO: u8 = 14;
 const UNKNOWN: u8 = 15;
 const CONFIG: u8 = 16;
 const OTHER_CONFIG: u8 = 17;
-const ACCOUNTS: u8 = 18;
+const PARTIAL_SPL_TOKEN: u8 = 18;
+const PARTIAL_TOKEN_2022: u8 = 19;
+const ACCOUNTS: u8 = 20;
+
+/// An index past all keys; cut to one byte or two it would be SPL Token's.
+const MISSING: u32 = 65_536;
+
+/// Programs of token and System instructions, by their indexes: those with a key, and those that are not
+/// resolved.
+pub const RESOLVED: [u32; 4] = [SPL_TOKEN as u32, TOKEN_2022 as u32, ZERO as u32, UNKNOWN as u32];
+pub const UNRESOLVED: [u32; 3] = [PARTIAL_SPL_TOKEN as u32, PARTIAL_TOKEN_2022 as u32, MISSING];
 
 /// Accounts of a swap before they come again: those with mints and graduated, then as many without.
 const SWAP_ACCOUNTS: u8 = 31;
@@ -44,13 +54,17 @@ const SWAP_ACCOUNTS: u8 = 31;
 #[derive(Clone, Copy, Debug)]
 pub enum Share {
     /// Token and System instructions under a program, over accounts with mints.
-    Recorded(u8, Damage),
+    Recorded(u32, Damage),
     /// The same over accounts with other mints, source and destination not having the same.
-    OtherMints(u8),
+    OtherMints(u32),
     /// The same over accounts that only the instruction itself tells something about.
-    Fresh(u8),
+    Fresh(u32),
     /// Of those only tags that are evidence, with an account missing.
-    FreshDamaged(u8, Damage),
+    FreshDamaged(u32, Damage),
+    /// Tag 26 with every second byte.
+    SecondBytes(u32),
+    /// Transfers with so many accounts or bytes that a single byte holds few of them.
+    Wide(u32),
     /// Swaps with the names lent in one of the ways.
     Legs(usize),
     /// Slices of DLMM's second version.
@@ -71,18 +85,21 @@ pub enum Damage {
 
 /// All parts, the longest first.
 pub fn shares() -> Vec<Share> {
-    let programs = [SPL_TOKEN as u8, TOKEN_2022 as u8, ZERO, UNKNOWN];
     let mut shares = Vec::new();
     for damage in [Damage::OutOfRange, Damage::Zero, Damage::None] {
-        shares.extend(programs.map(|program| Share::Recorded(program, damage)));
+        shares.extend(RESOLVED.map(|program| Share::Recorded(program, damage)));
     }
-    shares.extend(programs.map(Share::OtherMints));
-    shares.extend(programs.map(Share::Fresh));
+    shares.extend(UNRESOLVED.map(|program| Share::Recorded(program, Damage::None)));
+    shares.extend(RESOLVED.map(Share::OtherMints));
+    shares.extend(RESOLVED.map(Share::Fresh));
     for damage in [Damage::OutOfRange, Damage::Zero] {
-        shares.extend(programs.map(|program| Share::FreshDamaged(program, damage)));
+        shares.extend(RESOLVED.map(|program| Share::FreshDamaged(program, damage)));
     }
     shares.extend((0..all_names().len()).map(Share::Legs));
     shares.extend([Share::Slices, Share::Crossed, Share::Largest]);
+    let token_programs = [SPL_TOKEN as u32, TOKEN_2022 as u32];
+    shares.extend(token_programs.map(Share::SecondBytes));
+    shares.extend(token_programs.map(Share::Wide));
     shares
 }
 
@@ -95,6 +112,8 @@ impl Share {
             Share::Fresh(program) if is_token(program) => fresh(program, Damage::None, &all_tags()),
             Share::Fresh(program) => fresh(program, Damage::None, &EVIDENCE),
             Share::FreshDamaged(program, damage) => fresh(program, damage, &EVIDENCE),
+            Share::SecondBytes(program) => second_bytes(program),
+            Share::Wide(program) => wide(program),
             Share::Legs(way) => legs(way),
             Share::Slices => slices(),
             Share::Crossed => crossed(),
@@ -166,13 +185,20 @@ fn size(instruction: &Instruction) -> usize {
     8 + instruction.accounts.len() + instruction.data.len()
 }
 
-/// The ids, zero, an unknown program, both configs, then so many accounts.
+/// The ids, zero, an unknown program, both configs, the token programs with flag 0, then so many
+/// accounts.
 fn keys(names: &Names, accounts: usize) -> Vec<KeyRow> {
     let config = |at: usize| names[at..at + 32].try_into().expect("a config has 32 bytes");
-    let mut keys = original::ids().to_vec();
+    let ids = original::ids();
+    let mut keys = ids.to_vec();
     keys.extend([[0; 32], [200; 32], config(STANDARD), config(REWARD)]);
+    keys.extend([ids[SPL_TOKEN], ids[TOKEN_2022]]);
     keys.extend((0..accounts).map(account_key));
-    keys.into_iter().map(|key| KeyRow { whole: true, key }).collect()
+    let mut keys: Vec<_> = keys.into_iter().map(|key| KeyRow { whole: true, key }).collect();
+    for partial in [PARTIAL_SPL_TOKEN, PARTIAL_TOKEN_2022] {
+        keys[usize::from(partial)].whole = false;
+    }
+    keys
 }
 
 /// Keys that differ in their last byte alone.
@@ -188,15 +214,21 @@ fn pattern(place: usize) -> u8 {
 
 /// Tokens and natives: all tags over the wrapped SOL accounts first and third, whose second is wrapped
 /// SOL itself, so that no instruction makes another account ambiguous.
-fn recorded(program: u8, damage: Damage) -> Vec<Case> {
+fn recorded(program: u32, damage: Damage) -> Vec<Case> {
+    all_tags_over(RECORDED, recorded_mints(), program, damage)
+}
+
+/// Its accounts, and the mints of their balances.
+const RECORDED: [u8; MOST_ACCOUNTS] =
+    [ACCOUNTS, WRAPPED_SOL as u8, ACCOUNTS + 1, ACCOUNTS + 2, ACCOUNTS + 3];
+
+fn recorded_mints() -> [Key; MOST_ACCOUNTS] {
     let wrapped_sol = original::ids()[WRAPPED_SOL];
-    let accounts = [ACCOUNTS, WRAPPED_SOL as u8, ACCOUNTS + 1, ACCOUNTS + 2, ACCOUNTS + 3];
-    let mints = [wrapped_sol, wrapped_sol, wrapped_sol, [7; 32], [8; 32]];
-    all_tags_over(accounts, mints, program, damage)
+    [wrapped_sol, wrapped_sol, wrapped_sol, [7; 32], [8; 32]]
 }
 
 /// The second account is the mint of the first and third, and has another mint itself.
-fn other_mints(program: u8) -> Vec<Case> {
+fn other_mints(program: u32) -> Vec<Case> {
     let wrapped_sol = original::ids()[WRAPPED_SOL];
     let accounts = [ACCOUNTS, ACCOUNTS + 1, ACCOUNTS + 2, ACCOUNTS + 3, WRAPPED_SOL as u8];
     let mints = [account_key(1), [8; 32], account_key(1), wrapped_sol, wrapped_sol];
@@ -206,18 +238,59 @@ fn other_mints(program: u8) -> Vec<Case> {
 fn all_tags_over(
     accounts: [u8; MOST_ACCOUNTS],
     mints: [Key; MOST_ACCOUNTS],
-    program: u8,
+    program: u32,
     damage: Damage,
 ) -> Vec<Case> {
+    let mut packer = packer_over(accounts, mints);
+    let past = packer.pack.keys.len() as u8;
+    for data in all_data(program, &all_tags()) {
+        for accounts in damaged(accounts, damage, past) {
+            packer.push(Instruction { program, accounts, data: data.clone() });
+        }
+    }
+    packer.end()
+}
+
+/// Packs with a balance of each account.
+fn packer_over(accounts: [u8; MOST_ACCOUNTS], mints: [Key; MOST_ACCOUNTS]) -> Packer {
     let names = real();
     let balance = |(account, mint)| Balance { account: u32::from(account), mint };
     let balances = accounts.into_iter().zip(mints).map(balance).collect();
     let pack = Pack { keys: keys(&names, 4), balances, ..Pack::default() };
-    let past = pack.keys.len() as u8;
-    let mut packer = Packer::new(names, pack, MAX_INVOCATIONS);
-    for data in all_data(program, &all_tags()) {
-        for accounts in damaged(accounts, damage, past) {
-            packer.push(Instruction { program: program.into(), accounts, data: data.clone() });
+    Packer::new(names, pack, MAX_INVOCATIONS)
+}
+
+/// Every second byte of tag 26, around the least accounts and data.
+fn second_bytes(program: u32) -> Vec<Case> {
+    let mut packer = packer_over(RECORDED, recorded_mints());
+    for second in 0..=255 {
+        for length in [2, 18, 19, 20] {
+            for count in [0, 3, 4, 5] {
+                let data = [26, second].into_iter().chain((2..length).map(pattern)).collect();
+                let accounts = RECORDED[..count].to_vec();
+                packer.push(Instruction { program, accounts, data });
+            }
+        }
+    }
+    packer.end()
+}
+
+/// Transfers around their least accounts and data, with 256 more accounts or bytes or both.
+fn wide(program: u32) -> Vec<Case> {
+    let mut packer = packer_over(RECORDED, recorded_mints());
+    for start in [[3, 1], [12, 1], [26, 1]] {
+        for (more_accounts, more_bytes) in [(256, 0), (0, 256), (256, 256)] {
+            for count in 0..=MOST_ACCOUNTS {
+                for length in 1..=20 {
+                    let accounts = RECORDED.into_iter().cycle().take(count + more_accounts);
+                    let data = start.into_iter().chain((2..).map(pattern));
+                    packer.push(Instruction {
+                        program,
+                        accounts: accounts.collect(),
+                        data: data.take(length + more_bytes).collect(),
+                    });
+                }
+            }
         }
     }
     packer.end()
@@ -227,12 +300,12 @@ fn all_tags() -> Vec<u8> {
     (0..=255).collect()
 }
 
-fn is_token(program: u8) -> bool {
-    [SPL_TOKEN, TOKEN_2022].contains(&usize::from(program))
+pub fn is_token(program: u32) -> bool {
+    [SPL_TOKEN, TOKEN_2022].contains(&(program as usize))
 }
 
 /// Tokens as evidence: first and third account come in one instruction only, the second has a mint.
-fn fresh(program: u8, damage: Damage, tags: &[u8]) -> Vec<Case> {
+fn fresh(program: u32, damage: Damage, tags: &[u8]) -> Vec<Case> {
     const SHARED: usize = 3;
     let names = real();
     let balances = vec![Balance { account: ACCOUNTS.into(), mint: original::ids()[WRAPPED_SOL] }];
@@ -245,7 +318,7 @@ fn fresh(program: u8, damage: Damage, tags: &[u8]) -> Vec<Case> {
             let own = ACCOUNTS + (SHARED + 2 * packer.pack.outer.len()) as u8;
             let accounts = [own, ACCOUNTS, own + 1, ACCOUNTS + 1, ACCOUNTS + 2];
             let accounts = damaged(accounts, damage, past).swap_remove(number);
-            packer.push(Instruction { program: program.into(), accounts, data: data.clone() });
+            packer.push(Instruction { program, accounts, data: data.clone() });
         }
     }
     packer.end()
@@ -270,7 +343,7 @@ fn damaged(accounts: [u8; MOST_ACCOUNTS], damage: Damage, past: u8) -> Vec<Vec<u
 }
 
 /// No data, then every tag with every length.
-fn all_data(program: u8, tags: &[u8]) -> Vec<Vec<u8>> {
+fn all_data(program: u32, tags: &[u8]) -> Vec<Vec<u8>> {
     let mut all = vec![Vec::new()];
     for start in tags.iter().flat_map(|&tag| starts(program, tag)) {
         for length in 1..=MOST_DATA {
@@ -281,14 +354,14 @@ fn all_data(program: u8, tags: &[u8]) -> Vec<Vec<u8>> {
     all
 }
 
-/// Ways to begin with a tag: one byte under the token programs and a second one for fees, else four.
-fn starts(program: u8, tag: u8) -> Vec<[u8; 4]> {
-    let token = is_token(program);
+/// Ways to begin with a tag: one byte, for fees a second one, and four where System would read four.
+fn starts(program: u32, tag: u8) -> Vec<[u8; 4]> {
+    let system = [ZERO, UNKNOWN].map(u32::from).contains(&program);
     match tag {
-        26 if token => vec![[tag, 1, 9, 9], [tag, 0, 9, 9], [tag, 2, 9, 9]],
-        _ if token => vec![[tag, 1, 9, 9]],
-        2 => vec![[tag, 0, 0, 0], [tag, 1, 0, 0], [tag, 0, 1, 0], [tag, 0, 0, 1]],
-        _ => vec![[tag, 0, 0, 0]],
+        26 => vec![[tag, 1, 9, 9], [tag, 0, 9, 9], [tag, 2, 9, 9]],
+        2 if system => vec![[tag, 0, 0, 0], [tag, 1, 0, 0], [tag, 0, 1, 0], [tag, 0, 0, 1]],
+        _ if system => vec![[tag, 0, 0, 0]],
+        _ => vec![[tag, 1, 9, 9]],
     }
 }
 

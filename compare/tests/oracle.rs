@@ -1,9 +1,11 @@
 //! The oracle and its generated packs, checked by themselves.
 
 use compare::checks::{
-    cases::CASES, chosen, coverage, ids, mutants, packs, refusals::REFUSALS, sample,
+    cases::CASES, chosen, coverage, grids, ids, mutants, packs, refusals::REFUSALS, sample,
 };
+use compare::grids::{shares, Share};
 use compare::oracle::blocks::parents;
+use compare::oracle::examine;
 use compare::oracle::reason::reason;
 use mbelaguy::pack::{Instruction, KeyRow};
 
@@ -161,6 +163,16 @@ fn every_feature_occurs() {
     }
     let missing: Vec<_> = features.iter().filter(|feature| *feature.1 == 0).collect();
     assert!(missing.is_empty(), "missing: {missing:?}");
+}
+
+#[test]
+fn grids_meet_every_reason() {
+    let mut met = grids::Met::new();
+    for case in shares().into_iter().flat_map(Share::cases) {
+        let examined = examine(&case.names, &case.pack).expect("grids are not refused");
+        assert_eq!(grids::meet(&mut met, &examined), Ok(()));
+    }
+    assert_eq!(grids::all_met(&met), Ok(()));
 }
 
 #[test]

@@ -4,6 +4,7 @@ pub mod cases;
 pub mod chosen;
 pub mod coverage;
 pub mod damaged;
+pub mod grids;
 pub mod ids;
 pub mod inputs;
 pub mod invariants;
