@@ -371,7 +371,7 @@ pub const REASON: &[Site] = &[
         right: "data.get(1) == Some(&1)",
         wrong: &[
             ("the second byte of tag 26 is not looked at", "true"),
-            ("a missing second byte of tag 26 passes", "data.get(1).is_none_or(|second| *second == 1)"),
+            ("a missing second byte of tag 26 passes", "data.get(1).map_or(true, |second| *second == 1)"),
             ("a second byte of 0 passes", "data.get(1).is_some_and(|second| *second < 2)"),
             ("a second byte of 2 passes", "matches!(data.get(1), Some(1 | 2))"),
         ],
@@ -422,7 +422,7 @@ pub const REASON: &[Site] = &[
             ("too few accounts are told as too short data", "4"),
             (
                 "zero keys are told before too few accounts",
-                "if accounts.iter().any(|at| keys.get(usize::from(*at)).is_none_or(|row| row.key == [0; 32])) { 5 } else { 3 }",
+                "if accounts.iter().any(|at| keys.get(usize::from(*at)).map_or(true, |row| row.key == [0; 32])) { 5 } else { 3 }",
             ),
         ],
     },
@@ -433,7 +433,7 @@ pub const REASON: &[Site] = &[
             ("too short data is told as too few accounts", "3"),
             (
                 "zero keys are told before too short data",
-                "if accounts.iter().any(|at| keys.get(usize::from(*at)).is_none_or(|row| row.key == [0; 32])) { 5 } else { 4 }",
+                "if accounts.iter().any(|at| keys.get(usize::from(*at)).map_or(true, |row| row.key == [0; 32])) { 5 } else { 4 }",
             ),
         ],
     },
