@@ -1,14 +1,14 @@
 -- The reason tag by tag, on the side of the layouts and on that of the enum; so they are the same, and 0 exactly where there is a transfer.
 -- Assumes nothing.
-use mathlib.Core.Path.{_≡_, refl, sym, ap, _∙_, subst}
+use mathlib.Core.Path.{_≡_, refl, sym, ap, _∙_}
 use mathlib.Core.Logic.{_≢_, by-cases}
 use mathlib.Core.Bool.{Bool, true, false, cond, _&&_, _||_, and-true, and-false, or-false, false≢true}
 use mathlib.Core.List.{List, [], _∷_, List·Memᴰ, List·Memᴰ·head, List·Memᴰ·tail}
-use mathlib.Core.Option.{Option, none, some}
+use mathlib.Core.Option.{none, some}
 use Prim.Native.Nat.{ℕ, _≤_, _<_}
 use native.Mathlib.Decide.{ℕ-discrete}
 use native.Mathlib.Omega.{arith}
-use lib.Dec.{ltb, leb, eqb}
+use lib.Dec.{leb, eqb}
 use lib.ListN.{length, getD}
 use borrow.Author.Tests.{ne-eqb, eqb-true, lt-ltb, le-ltb, leb-true, leb-false}
 use Rattle.wire.specs.Same.{same}
@@ -30,17 +30,17 @@ use Rattle.token.proofs.Laws.{moved-value}
 
 -- as which of the three an instruction begins, by its first bytes
 module _ (id : Id) where
-  pub begins-3 : (d : List ℕ) → begins transferLayout id d ≡ (isToken id && eqb (getD d 0 0) 3)
+  begins-3 : (d : List ℕ) → begins transferLayout id d ≡ (isToken id && eqb (getD d 0 0) 3)
   unfolding begins transferLayout starts same
   begins-3 [] = simp and-false
   begins-3 (x ∷ r) = simp (token-programs, and-true)
 
-  pub begins-12 : (d : List ℕ) → begins transferChecked id d ≡ (isToken id && eqb (getD d 0 0) 12)
+  begins-12 : (d : List ℕ) → begins transferChecked id d ≡ (isToken id && eqb (getD d 0 0) 12)
   unfolding begins transferChecked starts same
   begins-12 [] = simp and-false
   begins-12 (x ∷ r) = simp (token-programs, and-true)
 
-  pub begins-26 : (d : List ℕ) → begins transferCheckedWithFee id d ≡ (isToken2022 id && (eqb (getD d 0 0) 26 && eqb (getD d 1 0) 1))
+  begins-26 : (d : List ℕ) → begins transferCheckedWithFee id d ≡ (isToken2022 id && (eqb (getD d 0 0) 26 && eqb (getD d 1 0) 1))
   unfolding begins transferCheckedWithFee starts same
   begins-26 [] = simp and-false
   begins-26 (x ∷ []) = simp and-false
