@@ -15,7 +15,7 @@ use Rattle.wire.specs.Zeros.{zeros}
 use Rattle.ids.specs.Keys.{Key, keyOf}
 use Rattle.pack.specs.Invocation.{Instruction, Position, positionAt}
 use Rattle.token.specs.Transfers.{Transfer}
-use Rattle.token.specs.Reasons.{Tells, because, gives}
+use Rattle.token.specs.Reasons.{Tells, says-why, says-transfer}
 use Rattle.token.proofs.Reasons.{reason-tells}
 use Rattle.evidence.specs.MintTable.{MintRow}
 use Rattle.wire.specs.Tab.{tab}
@@ -51,8 +51,8 @@ flag-bits r false m = rw (zero-mul (suc m))
 
 -- the reason is 0 exactly where there is a transfer
 tells-present : {r : ℕ} {o : Option Transfer} → Tells r o → eqb r 0 ≡ present o
-tells-present {r} (because h k) = ne-eqb r 0 (λ e. omega arith)
-tells-present gives = refl
+tells-present {r} (says-why h k) = ne-eqb r 0 (λ e. omega arith)
+tells-present says-transfer = refl
 
 pub reason-present : (ks : List ℕ) (x : Instruction) → eqb (reasonIn ks x) 0 ≡ present (transferOf ks x)
 unfolding reasonIn transferOf

@@ -23,10 +23,10 @@ use Rattle.route.specs.Widths.{transferWidth}
 use Rattle.route.specs.Lay.{placed}
 use Rattle.route.specs.Known.{rowIf}
 use Rattle.route.specs.Program.{programOf}
-use Rattle.route.specs.Transfers.{transferOf, reasonIn, rowsFor}
+use Rattle.route.specs.Transfers.{transferOf, reasonIn, transferCount}
 
-pub rows-le : (r : ℕ) → rowsFor r ≤ 1
-unfolding rowsFor
+pub rows-le : (r : ℕ) → transferCount r ≤ 1
+unfolding transferCount
 rows-le r = go (eqb r 0)
   where
     go : (b : Bool) → cond b 1 0 ≤ 1
@@ -46,8 +46,8 @@ no-token ks x e = rw e
 
 -- κ gives the key of an index, μ the final mint of a key, mint the one that is handed on
 module _ (κ : ℕ → Key) (μ : Key → Option Key) (i : ℕ) (program : Key) (mint : Option Key) where
-  pub row-counted : (m : Moved) → rowsFor (reasonOf m) ≡ length (rowIf (λ t. transferRow i program (μ (t .source)) t) (transferValue κ m))
-  unfolding rowsFor
+  pub row-counted : (m : Moved) → transferCount (reasonOf m) ≡ length (rowIf (λ t. transferRow i program (μ (t .source)) t) (transferValue κ m))
+  unfolding transferCount
   row-counted NotToken = refl
   row-counted UnsupportedTag = refl
   row-counted TooFewAccounts = refl

@@ -34,5 +34,5 @@ abbrev pub reasonsOf : List ℕ → List ℕ → ℕ → List ℕ
 reasonsOf p at n = tab (λ i. reasonIn (sectionOf p 0) (itemAt p at i)) 0 n
 
 -- how many rows of table 2 a reason leaves
-unfoldable pub rowsFor : ℕ → ℕ
-rowsFor r = cond (eqb r 0) 1 0
+unfoldable pub transferCount : ℕ → ℕ
+transferCount r = cond (eqb r 0) 1 0

@@ -13,7 +13,7 @@ ghost use lib.Seq.{sets};
 ghost use Rattle.route.specs.Arrays.{itemAt};
 ghost use Rattle.route.specs.Known.{knownMint, Puts, Fills};
 ghost use Rattle.route.specs.Program.{programOf, Programs};
-ghost use Rattle.route.specs.Transfers.{transferRows, reasonIn, reasonsOf, rowsFor};
+ghost use Rattle.route.specs.Transfers.{transferRows, reasonIn, reasonsOf, transferCount};
 
 // The final mint of a key index: 32 bytes, zero where it has none.
 pub(crate) fn mint(mints: &[u8], index: u8) -> &[u8]
@@ -26,7 +26,7 @@ pub(crate) fn mint(mints: &[u8], index: u8) -> &[u8]
 
 // How many rows there are: one for a transfer, which is reason 0, else none.
 fn rows(reason: u8) -> usize
-    ensures { λ r. ⌜ r ≡ rowsFor reason ⌝ }
+    ensures { λ r. ⌜ r ≡ transferCount reason ⌝ }
 {
     if reason == 0 { 1 } else { 0 }
 }
@@ -35,7 +35,7 @@ fn rows(reason: u8) -> usize
 fn put_one(keys: &[u8], pack: &[u8], mints: &[u8], x: Candidate, out: &mut [u8]) -> u8
     requires { ⌜ (length (now mints) ≡ 8192) × (x .row < 1024) × (x .program ≡ programOf (now keys) (instructionAt (now pack) (x .at))) ⌝ }
     ensures { λ r. ⌜ r ≡ reasonIn (now (keys .entry)) (instructionAt (now (pack .entry)) (x .at)) ⌝ }
-    ensures { λ r. ⌜ Puts (now (mints .entry)) (now (keys .entry)) (now (pack .entry)) (transferRows (now (keys .entry))) transferWidth x (rowsFor r)
+    ensures { λ r. ⌜ Puts (now (mints .entry)) (now (keys .entry)) (now (pack .entry)) (transferRows (now (keys .entry))) transferWidth x (transferCount r)
         (now (out .entry)) (now (out .exit)) ⌝ }
 {
     // No other program gives a transfer, so its accounts and data are not read.

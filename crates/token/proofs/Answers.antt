@@ -11,12 +11,12 @@ use Rattle.ids.specs.declared.Id.{Id}
 use Rattle.ids.specs.Keys.{Key}
 use Rattle.token.specs.Programs.{isToken}
 use Rattle.token.specs.Published.{Layout, size, transferLayout, transferChecked, transferCheckedWithFee}
-use Rattle.token.specs.Reasons.{transferLayouts, begins, lacksKey, lacking, reasonAmong, reason, Because, not-token, unsupported-tag, too-few-accounts, data-too-short, zero-key, a-transfer}
+use Rattle.token.specs.Reasons.{transferLayouts, beginsAs, lacksKey, lacking, reasonAmong, reason, Because, not-token, unsupported-tag, too-few-accounts, data-too-short, zero-key, a-transfer}
 use Rattle.token.proofs.Reasons.{begun, lacking-key}
 
 module _ (κ : ℕ → Key) (id : Id) (a d : List ℕ) where
   -- what an instruction that begins as a layout lacks is one of four answers
-  lacked : (l : Layout) → List·Memᴰ l transferLayouts → begins l id d ≡ true → Because κ id a d (lacking l κ a d)
+  lacked : (l : Layout) → List·Memᴰ l transferLayouts → beginsAs l id d ≡ true → Because κ id a d (lacking l κ a d)
   unfolding lacking
   lacked l i b = go (ltb (length a) (length (l .accounts))) refl (ltb (length d) (size l)) refl (lacksKey l κ a) refl
     where
@@ -30,9 +30,9 @@ module _ (κ : ℕ → Key) (id : Id) (a d : List ℕ) where
   -- NOTHING IS LEFT OUT: the reason is an answer
   pub reason-because : Because κ id a d (reason κ id a d)
   unfolding reason reasonAmong transferLayouts
-  reason-because = go (isToken id) refl (begins transferLayout id d) refl (begins transferChecked id d) refl (begins transferCheckedWithFee id d) refl
+  reason-because = go (isToken id) refl (beginsAs transferLayout id d) refl (beginsAs transferChecked id d) refl (beginsAs transferCheckedWithFee id d) refl
     where
-      go : (t : Bool) → isToken id ≡ t → (x : Bool) → begins transferLayout id d ≡ x → (y : Bool) → begins transferChecked id d ≡ y → (z : Bool) → begins transferCheckedWithFee id d ≡ z
+      go : (t : Bool) → isToken id ≡ t → (x : Bool) → beginsAs transferLayout id d ≡ x → (y : Bool) → beginsAs transferChecked id d ≡ y → (z : Bool) → beginsAs transferCheckedWithFee id d ≡ z
           → Because κ id a d (cond t (cond x (lacking transferLayout κ a d) (cond y (lacking transferChecked κ a d) (cond z (lacking transferCheckedWithFee κ a d) 2))) 1)
       go false t x p y q z r = not-token t
       go true t true p y q z r = lacked transferLayout (List·Memᴰ·head refl) p
@@ -40,7 +40,7 @@ module _ (κ : ℕ → Key) (id : Id) (a d : List ℕ) where
       go true t false p false q true r = lacked transferCheckedWithFee (List·Memᴰ·tail (List·Memᴰ·tail (List·Memᴰ·head refl))) r
       go true t false p false q false r = unsupported-tag t (λ l i. none l i)
         where
-          none : (l : Layout) → List·Memᴰ l transferLayouts → begins l id d ≡ false
+          none : (l : Layout) → List·Memᴰ l transferLayouts → beginsAs l id d ≡ false
           none l (List·Memᴰ·head e) = rw e p
           none l (List·Memᴰ·tail (List·Memᴰ·head e)) = rw e q
           none l (List·Memᴰ·tail (List·Memᴰ·tail (List·Memᴰ·head e))) = rw e r

@@ -16,7 +16,7 @@ use Rattle.token.specs.Tokens.{initialises, plainTransfer, checkedTransf
 use Rattle.token.specs.Records.{bothEnds, records}
 use Rattle.token.specs.Transfers.{plainly, checked, transfer}
 use Rattle.token.specs.Published.{transferLayout, transferChecked, transferCheckedWithFee, total, size, starts, oneOf, place, standing, role}
-use Rattle.token.specs.Reasons.{transferLayouts, begins, lacksKey, lacking, reasonAmong, reason}
+use Rattle.token.specs.Reasons.{transferLayouts, beginsAs, lacksKey, lacking, reasonAmong, reason}
 
 -- n keys, none of them zero
 abbrev pub keysUpTo : ℕ → ℕ → Key
@@ -89,5 +89,5 @@ wellExplained [] = true
 wellExplained (e ∷ es) = let rest = wellExplained es in eqb (reason (keysUpTo 3) (e .program) (e .accounts) (e .bytes)) (e .because) && rest
 
 pub reasons-explained : wellExplained explanations ≡ true
-unfolding wellExplained reason reasonAmong transferLayouts begins lacking lacksKey role standing place transferLayout transferChecked transferCheckedWithFee total size starts oneOf zeroKey same isToken
+unfolding wellExplained reason reasonAmong transferLayouts beginsAs lacking lacksKey role standing place transferLayout transferChecked transferCheckedWithFee total size starts oneOf zeroKey same isToken
 reasons-explained = refl

@@ -19,7 +19,7 @@ use Rattle.token.specs.Programs.{isToken, isSpl, isToken2022}
 use Rattle.token.specs.Tokens.{initialises, plainTransfer, checkedTransfer, feeTransfer, plainAmount, checkedAmount, feeTransferAmount, feeTransferFee, tokenOf}
 use Rattle.token.specs.Transfers.{Transfer, transfer}
 use Rattle.token.specs.Published.{Layout, source, destination, mint, authority, place, standing, role, total, size, starts, transferLayout, transferChecked, transferCheckedWithFee}
-use Rattle.token.specs.Reasons.{transferLayouts, begins, lacksKey, lacking, reasonAmong, reason, Tells, gives, because}
+use Rattle.token.specs.Reasons.{transferLayouts, beginsAs, lacksKey, lacking, reasonAmong, reason, Tells, says-transfer, says-why}
 use Rattle.token.specs.Moved.{transferValue, reasonOf, feeless, accountsNamed, whyNone, movedBy, movedOf}
 use Rattle.token.specs.declared.Token.the-variants.{Other, Initialise, Plain, Checked, WithFee}
 use Rattle.token.specs.declared.Moved.{Moved}
@@ -30,18 +30,18 @@ use Rattle.token.proofs.Laws.{moved-value}
 
 -- as which of the three an instruction begins, by its first bytes
 module _ (id : Id) where
-  begins-3 : (d : List ℕ) → begins transferLayout id d ≡ (isToken id && eqb (getD d 0 0) 3)
-  unfolding begins transferLayout starts same
+  begins-3 : (d : List ℕ) → beginsAs transferLayout id d ≡ (isToken id && eqb (getD d 0 0) 3)
+  unfolding beginsAs transferLayout starts same
   begins-3 [] = simp and-false
   begins-3 (x ∷ r) = simp (token-programs, and-true)
 
-  begins-12 : (d : List ℕ) → begins transferChecked id d ≡ (isToken id && eqb (getD d 0 0) 12)
-  unfolding begins transferChecked starts same
+  begins-12 : (d : List ℕ) → beginsAs transferChecked id d ≡ (isToken id && eqb (getD d 0 0) 12)
+  unfolding beginsAs transferChecked starts same
   begins-12 [] = simp and-false
   begins-12 (x ∷ r) = simp (token-programs, and-true)
 
-  begins-26 : (d : List ℕ) → begins transferCheckedWithFee id d ≡ (isToken2022 id && (eqb (getD d 0 0) 26 && eqb (getD d 1 0) 1))
-  unfolding begins transferCheckedWithFee starts same
+  begins-26 : (d : List ℕ) → beginsAs transferCheckedWithFee id d ≡ (isToken2022 id && (eqb (getD d 0 0) 26 && eqb (getD d 1 0) 1))
+  unfolding beginsAs transferCheckedWithFee starts same
   begins-26 [] = simp and-false
   begins-26 (x ∷ []) = simp and-false
   begins-26 (x ∷ y ∷ r) = simp (fee-programs, and-true)
@@ -87,7 +87,7 @@ module _ (κ : ℕ → Key) (id : Id) (a d : List ℕ) where
   reason-2 t x y z = simp (t, begins-3, begins-12, begins-26, ne-eqb _ _ x, ne-eqb _ _ y, ne-eqb _ _ z, and-false)
 
   -- so an instruction that begins as one of the three lacks what that one asks for
-  pub begun : (l : Layout) → List·Memᴰ l transferLayouts → begins l id d ≡ true → reason κ id a d ≡ lacking l κ a d
+  pub begun : (l : Layout) → List·Memᴰ l transferLayouts → beginsAs l id d ≡ true → reason κ id a d ≡ lacking l κ a d
   unfolding transferLayouts
   begun l (List·Memᴰ·head e) b =
       let c = rw (e, begins-3 id d) at b in
@@ -206,13 +206,13 @@ module _ (κ : ℕ → Key) (id : Id) (a d : List ℕ) where
 
 -- a case says why, or has a value
 case-tells : (κ : ℕ → Key) (m : Moved) → Tells (reasonOf m) (transferValue κ m)
-case-tells κ NotToken = because {n = 1} (omega arith) (omega arith)
-case-tells κ UnsupportedTag = because {n = 2} (omega arith) (omega arith)
-case-tells κ TooFewAccounts = because {n = 3} (omega arith) (omega arith)
-case-tells κ DataTooShort = because {n = 4} (omega arith) (omega arith)
-case-tells κ ZeroKey = because {n = 5} (omega arith) (omega arith)
-case-tells κ (FeeUnknown s d a) = gives
-case-tells κ (FeeKnown s d a f) = gives
+case-tells κ NotToken = says-why {n = 1} (omega arith) (omega arith)
+case-tells κ UnsupportedTag = says-why {n = 2} (omega arith) (omega arith)
+case-tells κ TooFewAccounts = says-why {n = 3} (omega arith) (omega arith)
+case-tells κ DataTooShort = says-why {n = 4} (omega arith) (omega arith)
+case-tells κ ZeroKey = says-why {n = 5} (omega arith) (omega arith)
+case-tells κ (FeeUnknown s d a) = says-transfer
+case-tells κ (FeeKnown s d a f) = says-transfer
 
 module _ (κ : ℕ → Key) (id : Id) (a d : List ℕ) where
   -- THE REASON IS 0 EXACTLY WHERE THERE IS A TRANSFER, else one of five
@@ -223,13 +223,13 @@ module _ (κ : ℕ → Key) (id : Id) (a d : List ℕ) where
   reason-given {t} e = go (rw e at reason-tells)
     where
       go : {n : ℕ} → Tells n (some t) → n ≡ 0
-      go gives = refl
+      go says-transfer = refl
 
   pub reason-lacking : transfer κ id a d ≡ none → (0 < reason κ id a d) × (reason κ id a d ≤ 5)
   reason-lacking e = go (rw e at reason-tells)
     where
       go : {n : ℕ} → Tells n none → (0 < n) × (n ≤ 5)
-      go (because h k) = (h, k)
+      go (says-why h k) = (h, k)
 
   -- a result that is the definition's has the value that the Rust gives, and the reason of the layouts
   pub tells : {r : Moved} → r ≡ movedOf κ id a d → (r ≡ movedOf κ id a d) × ((transferValue κ r ≡ transfer κ id a d) × (reasonOf r ≡ reason κ id a d))

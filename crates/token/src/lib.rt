@@ -230,7 +230,7 @@ fn why_none(id: Id, accounts: usize, data: &[u8]) -> Moved
     Moved::DataTooShort
 }
 
-// The transfer of an instruction that is read.
+// The transfer of an instruction that is read, or why there is none.
 fn moved_by(token: Token, id: Id, keys: &[u8], accounts: &[u8], data: &[u8]) -> Moved
     ensures { λ r. ⌜ r ≡ movedBy (keyOf (now (keys .entry))) id (now (accounts .entry)) (now («data» .entry)) token ⌝ }
 {

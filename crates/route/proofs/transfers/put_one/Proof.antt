@@ -4,7 +4,7 @@ use Rattle.route.proofs.Moving.{rows-le, no-transfer, no-token, row-cou
 use Rattle.route.specs.Known.{knownMint}
 use Rattle.route.specs.Lay.{placed}
 use Rattle.route.specs.Program.{programOf}
-use Rattle.route.specs.Transfers.{transferOf, transferRows, reasonIn, rowsFor}
+use Rattle.route.specs.Transfers.{transferOf, transferRows, reasonIn, transferCount}
 use Rattle.token.specs.Programs.{isToken}
 use Rattle.token.specs.Moved.{transferValue, reasonOf, sourceBy}
 use Rattle.token.specs.Reasons.{reason}
@@ -41,7 +41,7 @@ reason-requires : tie.Need-reason-requires
 reason-requires c κs = search needs
 
 returns : tie.Need-returns
-unfolding transferRows placed rowsFor
+unfolding transferRows placed transferCount
 returns c =
     let start = c .before .before .before .before .before .before .before in
     let a = start .args in

@@ -4,7 +4,7 @@ use Rattle.route.proofs.Rows.{candidate, fills-none, fills-more, array-
 use Rattle.route.specs.Arrays.{itemAt}
 use Rattle.route.specs.Known.{Puts, Fills}
 use Rattle.route.specs.Widths.{transferWidth}
-use Rattle.route.specs.Transfers.{transferRows, reasonIn, reasonsOf, rowsFor}
+use Rattle.route.specs.Transfers.{transferRows, reasonIn, reasonsOf, transferCount}
 use Rattle.pack.specs.Sections.{sectionOf}
 use Rattle.wire.specs.Tab.{tab}
 use lib.ListN.{length}
@@ -89,13 +89,13 @@ loop-again c =
     let id = c .before .before .before .before .before .before .before .of-number .result in
     let keys = c .before .before .before .before .before .before .before .before .before .before .before .section .ensures in
     let offset = c .before .before .before .before .before .wide .ensures in
-    let one : Puts (a .mints .now) (sectionOf (a .pack .now) 0) (a .pack .now) f transferWidth (candidate (a .at .now) id (l .i) (l .k)) (rowsFor (put .result)) (l .out) (put .last .1 .1 .1 .1 .0) =
+    let one : Puts (a .mints .now) (sectionOf (a .pack .now) 0) (a .pack .now) f transferWidth (candidate (a .at .now) id (l .i) (l .k)) (transferCount (put .result)) (l .out) (put .last .1 .1 .1 .1 .0) =
     rw (keys, offset) at (put .ensures .1) in
     let told : put .result ≡ reasonIn (sectionOf (a .pack .now) 0) (itemAt (a .pack .now) (a .at .now) (l .i)) = rw (keys, offset) at (put .ensures .0) in (
       omega arith,
       omega (arith, c .rows .ensures, one .few),
       put .kept .1 .1 .1 .1 .0 ∙ l .inv .2,
-      rw (c .rows .ensures) (fills-more (a .mints .now) (a .pack .now) (a .at .now) f id transferWidth (l .i) (l .k) (rowsFor (put .result)) (a .out .now) (l .out) _ (l .inv .3) one),
+      rw (c .rows .ensures) (fills-more (a .mints .now) (a .pack .now) (a .at .now) f id transferWidth (l .i) (l .k) (transferCount (put .result)) (a .out .now) (l .out) _ (l .inv .3) one),
       rw told (array-more (λ i. reasonIn (sectionOf (a .pack .now) 0) (itemAt (a .pack .now) (a .at .now) i)) (l .i) (a .reasons .now) (l .reasons) (l .inv .4)),
     )
 
