@@ -13,12 +13,13 @@ use Rattle.pack.specs.View.{viewOf}
 use Rattle.pack.proofs.Rows.{key-is, program-is}
 use Rattle.pack.proofs.Sizes.{key-rows}
 use Rattle.token.specs.Transfers.{transfer}
+use Rattle.token.specs.Reasons.{reason}
 use Rattle.natives.specs.Natives.{nativeAction}
 use Rattle.swaps.specs.Swap.{swap}
 use Rattle.evidence.specs.MintTable.{mintIn}
 use Rattle.mints.specs.Inference.{inferred}
 use Rattle.route.specs.Program.{skips}
-use Rattle.route.specs.Transfers.{transferOf}
+use Rattle.route.specs.Transfers.{transferOf, reasonIn}
 use Rattle.route.specs.Legs.{legOf}
 use Rattle.route.specs.Actions.{actionOf}
 use Rattle.route.specs.Order.{instructionsIn}
@@ -38,11 +39,12 @@ module _ (names p : List ℕ) where
   count = sym (key-rows (sectionOf p 0))
 
   pub reads-view : ReadsView names p
-  unfolding viewOf transferOf legOf actionOf
+  unfolding viewOf transferOf reasonIn legOf actionOf
   reads-view =
       record {
         mints = λ i. inferred (κ i) (ι i) (viewOf p .balances) (instructionsIn p);
         transfers = λ x i. transfer (κ i) (ι i (x .program)) (x .accounts) (x .bytes);
+        reasons = λ x i. reason (κ i) (ι i (x .program)) (x .accounts) (x .bytes);
         legs =
             λ table x i.
             cond (skips (ι i (x .program))) none (swap names (κ i) (ι i (x .program)) (x .accounts) (x .bytes) (mintIn table) (viewOf p .pools));

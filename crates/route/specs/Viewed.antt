@@ -13,12 +13,13 @@ use Rattle.pack.specs.Invocation.{Instruction}
 use Rattle.pack.specs.Sections.{sectionOf}
 use Rattle.pack.specs.View.{viewOf, keyIn, programIn}
 use Rattle.token.specs.Transfers.{transfer}
+use Rattle.token.specs.Reasons.{reason}
 use Rattle.natives.specs.Natives.{nativeAction}
 use Rattle.swaps.specs.Swap.{swap}
 use Rattle.evidence.specs.MintTable.{MintRow, mintIn}
 use Rattle.mints.specs.Inference.{inferred}
 use Rattle.route.specs.Program.{skips}
-use Rattle.route.specs.Transfers.{transferOf}
+use Rattle.route.specs.Transfers.{transferOf, reasonIn}
 use Rattle.route.specs.Legs.{legOf}
 use Rattle.route.specs.Actions.{actionOf}
 use Rattle.route.specs.Order.{instructionsIn, mintsIn}
@@ -30,10 +31,11 @@ keyBy p = keyIn (viewOf p .keys)
 abbrev pub programBy : List ℕ → ℕ → Id
 programBy p = programIn (viewOf p .keys)
 
--- the mint table; then transfer, leg and action of an instruction, and the key of its program; table is the rows of table 0
+-- the mint table; then transfer, reason, leg and action of an instruction, and the key of its program; table is the rows of table 0
 pub record ReadsView (names p : List ℕ) : Type 0 where
   pub mints : mintsIn p ≡ inferred (keyBy p) (programBy p) (viewOf p .balances) (instructionsIn p)
   pub transfers : (x : Instruction) → transferOf (sectionOf p 0) x ≡ transfer (keyBy p) (programBy p (x .program)) (x .accounts) (x .bytes)
+  pub reasons : (x : Instruction) → reasonIn (sectionOf p 0) x ≡ reason (keyBy p) (programBy p (x .program)) (x .accounts) (x .bytes)
   pub legs : (table : List MintRow) (x : Instruction)
       → legOf names (sectionOf p 0) (viewOf p .pools) table x
       ≡ cond (skips (programBy p (x .program))) none

@@ -76,8 +76,8 @@ payments =
     ∷ [])
     []
 
--- a transfer; another program, and one that no key has; no data, and tag 26 under SPL Token and Token-2022; an account too few, and none too few; data too
--- short; the destination, and the mint of a checked transfer, no key
+-- a transfer; the same of another program, and of one that no key has; no data; tag 26 under SPL Token, and under Token-2022; an account and data missing, data
+-- alone, and the fee alone; a destination that no key is, and such a mint
 abbrev pub explained : View
 explained =
     saying (keysWith 4 (splToken ∷ token2022 ∷ key 100 ∷ [])) []

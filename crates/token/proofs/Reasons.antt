@@ -4,7 +4,6 @@ use mathlib.Core.Path.{_≡_, refl, sym, ap, _∙_}
 use mathlib.Core.Logic.{_≢_, by-cases}
 use mathlib.Core.Bool.{Bool, true, false, cond, _&&_, _||_, and-true, and-false, or-false, false≢true}
 use mathlib.Core.List.{List, [], _∷_, List·Memᴰ, List·Memᴰ·head, List·Memᴰ·tail}
-use mathlib.Core.Option.{none, some}
 use Prim.Native.Nat.{ℕ, _≤_, _<_}
 use native.Mathlib.Decide.{ℕ-discrete}
 use native.Mathlib.Omega.{arith}
@@ -17,7 +16,7 @@ use Rattle.ids.specs.declared.Id.{Id}
 use Rattle.ids.specs.Keys.{Key, isZero}
 use Rattle.token.specs.Programs.{isToken, isSpl, isToken2022}
 use Rattle.token.specs.Tokens.{initialises, plainTransfer, checkedTransfer, feeTransfer, plainAmount, checkedAmount, feeTransferAmount, feeTransferFee, tokenOf}
-use Rattle.token.specs.Transfers.{Transfer, transfer}
+use Rattle.token.specs.Transfers.{transfer}
 use Rattle.token.specs.Published.{Layout, source, destination, mint, authority, place, standing, role, total, size, starts, transferLayout, transferChecked, transferCheckedWithFee}
 use Rattle.token.specs.Reasons.{transferLayouts, beginsAs, lacksKey, lacking, reasonAmong, reason, Tells, says-transfer, says-why}
 use Rattle.token.specs.Moved.{transferValue, reasonOf, feeless, accountsNamed, whyNone, movedBy, movedOf}
@@ -218,18 +217,6 @@ module _ (κ : ℕ → Key) (id : Id) (a d : List ℕ) where
   -- THE REASON IS 0 EXACTLY WHERE THERE IS A TRANSFER, else one of five
   pub reason-tells : Tells (reason κ id a d) (transfer κ id a d)
   reason-tells = rw (← moved-reason κ id a d, ← moved-value κ id a d) (case-tells κ (movedOf κ id a d))
-
-  pub reason-given : {t : Transfer} → transfer κ id a d ≡ some t → reason κ id a d ≡ 0
-  reason-given {t} e = go (rw e at reason-tells)
-    where
-      go : {n : ℕ} → Tells n (some t) → n ≡ 0
-      go says-transfer = refl
-
-  pub reason-lacking : transfer κ id a d ≡ none → (0 < reason κ id a d) × (reason κ id a d ≤ 5)
-  reason-lacking e = go (rw e at reason-tells)
-    where
-      go : {n : ℕ} → Tells n none → (0 < n) × (n ≤ 5)
-      go (says-why h k) = (h, k)
 
   -- a result that is the definition's has the value that the Rust gives, and the reason of the layouts
   pub tells : {r : Moved} → r ≡ movedOf κ id a d → (r ≡ movedOf κ id a d) × ((transferValue κ r ≡ transfer κ id a d) × (reasonOf r ≡ reason κ id a d))
