@@ -27,6 +27,8 @@ pub enum Refusal {
     Section(Section),
     /// 5: over 256 keys.
     Keys,
+    /// 11: a balance row whose account index is at or above the number of keys, whatever its mint is.
+    Balances,
     /// 6: over 1,024 kept invocations.
     Invocations,
     /// 7: over 512 passes.
@@ -102,6 +104,7 @@ impl Refusal {
             (3, 0) => Self::Starts,
             (4, 0..5) => Self::Section(Section::ALL[place as usize]),
             (5, 0) => Self::Keys,
+            (11, 1) => Self::Balances,
             (6, 0) => Self::Invocations,
             (7, 0) => Self::Passes,
             (8, 0..5) => Self::Room(Table::ALL[place as usize]),
@@ -121,6 +124,7 @@ impl Refusal {
             Self::Starts => 3,
             Self::Section(_) => 4,
             Self::Keys => 5,
+            Self::Balances => 11,
             Self::Invocations => 6,
             Self::Passes => 7,
             Self::Room(_) => 8,
@@ -136,6 +140,7 @@ impl Refusal {
     pub fn place(self) -> u32 {
         match self {
             Self::Section(section) => section as u32,
+            Self::Balances => Section::Balances as u32,
             Self::Room(table) => table as u32,
             Self::Unknown { place, .. } => place,
             _ => 0,
@@ -160,6 +165,7 @@ impl Refusal {
                  stands beside flag 0"
             }
             Self::Keys => "there are more than 256 keys",
+            Self::Balances => "a row's account index is not below the number of keys",
             Self::Invocations => "there are more than 1,024 invocations",
             Self::Passes => "there would be more than 512 passes over the plain transfers",
             Self::Room(_) => "it has fewer whole rows than are needed",
@@ -183,6 +189,7 @@ impl fmt::Display for Refusal {
         write!(f, "refusal {}, place {}", self.number(), self.place())?;
         match self {
             Self::Section(section) => write!(f, " (section of {section})")?,
+            Self::Balances => write!(f, " (section of {})", Section::Balances)?,
             Self::Room(table) => write!(f, " (table of {table})")?,
             _ => {}
         }

@@ -4,7 +4,7 @@ use super::{Instruction, Pack, MARK, MAX_BYTES, MAX_COUNT};
 use std::error::Error;
 use std::fmt;
 
-/// What has no room in a pack, and how much of it there is.
+/// What has no room in a pack, and how much of it there is; or a balance row that names no key.
 ///
 /// ```
 /// use mbelaguy::pack::{DoesNotFit, Instruction, Pack};
@@ -23,6 +23,13 @@ pub enum DoesNotFit {
     Instructions(usize),
     /// Bytes of the pack, trailer included.
     Bytes(usize),
+    /// A balance row's account index, at or above the number of keys.
+    Balance {
+        /// The index.
+        account: u32,
+        /// The number of keys.
+        keys: usize,
+    },
 }
 
 impl fmt::Display for DoesNotFit {
@@ -32,6 +39,9 @@ impl fmt::Display for DoesNotFit {
             Self::Data(n) => write!(f, "an instruction has {n} bytes of data, over {MAX_COUNT}"),
             Self::Instructions(n) => write!(f, "a group has {n} instructions, over {MAX_COUNT}"),
             Self::Bytes(n) => write!(f, "the pack would have {n} bytes, over {MAX_BYTES}"),
+            Self::Balance { account, keys } => {
+                write!(f, "a balance row names account {account}, and there are {keys} keys")
+            }
         }
     }
 }
@@ -57,7 +67,11 @@ impl Pack {
             keys.extend(row.key);
         }
         for balance in &self.balances {
-            balances.extend(balance.account.to_le_bytes());
+            let (account, keys) = (balance.account, self.keys.len());
+            if account as usize >= keys {
+                return Err(DoesNotFit::Balance { account, keys });
+            }
+            balances.extend(account.to_le_bytes());
             balances.extend(balance.mint);
         }
         for instruction in &self.outer {
