@@ -15,7 +15,7 @@ use Rattle.pack.specs.declared.Verdict.the-variants.{Mark}
 use Rattle.pack.specs.Invocation.{instructionAt}
 use Rattle.pack.specs.Sections.{mark, marked, startOf, ordered, hasSection, sectionOf}
 use Rattle.pack.specs.Items.{rows, rowsFill, keysFill, itemEnd, outersFrom, outersFill, heightAt, heightGood, innersEnd, innersGood, innersFrom, groupEnd, groupGood, groupAt, groupsFrom, groupsFill}
-use Rattle.pack.specs.View.{keysIn, balancesIn, outerIn, groupsIn, poolsIn, viewOf}
+use Rattle.pack.specs.View.{keysIn, balancesIn, balancesNamed, outerIn, groupsIn, poolsIn, viewOf}
 use Rattle.pack.specs.Flatten.{numbered, inside, flattenFrom, flatten}
 use Rattle.pack.specs.Verdict.{verdict, refusalNumber, placeOf}
 
@@ -38,6 +38,16 @@ inner flag height program = flag ∷ leBytes 4 height ++ plain program
 
 abbrev pub group : ℕ → ℕ → List ℕ
 group index count = leBytes 4 index ++ leBytes 2 count
+
+-- a key of 32 bytes, a mint, and a balance row
+abbrev pub oneKey : List ℕ
+oneKey = 1 ∷ zeros 32
+
+abbrev oneMint : List ℕ
+oneMint = 9 ∷ zeros 31
+
+abbrev pub balance : ℕ → List ℕ → List ℕ
+balance index mint = leBytes 4 index ++ mint
 
 -- a pack, and the number and place of its refusal
 pub record Case : Type 0 where
@@ -65,7 +75,15 @@ cases =
     case (packed (1 ∷ []) [] [] [] []) 4 0 ∷ case (packed [] (1 ∷ []) [] [] []) 4 1 ∷ case (packed [] [] (zeros 7) [] []) 4 2 ∷ case (packed [] [] [] (zeros 5) []) 4 3 ∷
     case (packed [] [] [] [] (1 ∷ [])) 4 4 ∷ case (packed [] (1 ∷ []) [] (zeros 5) []) 4 1 ∷
     -- a key's flag: 1, 2
-    case (packed (1 ∷ zeros 32) [] [] [] []) 0 0 ∷ case (packed (2 ∷ zeros 32) [] [] [] []) 4 0 ∷
+    case (packed oneKey [] [] [] []) 0 0 ∷ case (packed (2 ∷ zeros 32) [] [] [] []) 4 0 ∷
+    -- the balance of the one key, and of a key that is not there: the mint zero or not, the index 1, 256, 65,536 or the greatest, in the first row or the last
+    case (packed oneKey (balance 0 (zeros 32)) [] [] []) 0 0 ∷ case (packed oneKey (balance 1 (zeros 32)) [] [] []) 11 1 ∷ case (packed oneKey (balance 1 oneMint) [] [] []) 11 1 ∷
+    case (packed oneKey (balance 256 oneMint) [] [] []) 11 1 ∷ case (packed oneKey (balance 65536 oneMint) [] [] []) 11 1 ∷ case (packed oneKey (balance 4294967295 oneMint) [] [] []) 11 1 ∷
+    case (packed oneKey (balance 1 oneMint ++ balance 0 oneMint) [] [] []) 11 1 ∷ case (packed oneKey (balance 0 oneMint ++ balance 1 oneMint) [] [] []) 11 1 ∷
+    -- no keys at all: no index names one
+    case (packed [] (balance 0 (zeros 32)) [] [] []) 11 1 ∷
+    -- a partial row of the last section comes before it
+    case (packed [] (balance 0 (zeros 32)) [] [] (1 ∷ [])) 4 4 ∷
     -- 65,535 accounts in a section of 9 bytes
     case (packed [] [] (zeros 4 ++ leBytes 2 65535 ++ zeros 3) [] []) 4 2 ∷
     -- a group that holds two, and one that is cut off in its second instruction, though no outer instruction has its index
@@ -75,7 +93,7 @@ cases =
     []
 
 pub refusals : all-right cases ≡ true
-unfolding cases right all-right verdict marked mark same startOf ordered hasSection sectionOf le leBytes rows rowsFill keysFill itemEnd outersFrom outersFill heightAt heightGood innersEnd innersGood innersFrom groupEnd groupGood groupAt groupsFrom groupsFill keysIn balancesIn outerIn groupsIn poolsIn viewOf numbered inside flattenFrom flatten instructionAt
+unfolding cases right all-right verdict marked mark same startOf ordered hasSection sectionOf le leBytes rows rowsFill keysFill itemEnd outersFrom outersFill heightAt heightGood innersEnd innersGood innersFrom groupEnd groupGood groupAt groupsFrom groupsFill keysIn balancesIn balancesNamed outerIn groupsIn poolsIn viewOf numbered inside flattenFrom flatten instructionAt
 refusals = refl
 
 -- packs of every size that is not taken

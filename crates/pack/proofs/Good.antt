@@ -13,10 +13,10 @@ use Rattle.wire.specs.Same.{same}
 use Rattle.wire.specs.Below.{allBelow}
 use Rattle.wire.proofs.Below.{below-at, and-left, and-right}
 use Rattle.pack.specs.declared.Verdict.{Verdict}
-use Rattle.pack.specs.declared.Verdict.the-variants.{Good, Mark, Starts, Section, Keys, Invocations}
+use Rattle.pack.specs.declared.Verdict.the-variants.{Good, Mark, Starts, Section, Keys, Balances, Invocations}
 use Rattle.pack.specs.Sections.{mark, marked, ordered, startOf, hasSection, sectionOf}
 use Rattle.pack.specs.Items.{keysFill, rowsFill, outersWhole, groupsWhole}
-use Rattle.pack.specs.View.{viewOf}
+use Rattle.pack.specs.View.{balancesNamed, viewOf}
 use Rattle.pack.specs.Flatten.{flatten}
 use Rattle.pack.specs.Verdict.{refusalNumber, verdict}
 
@@ -30,6 +30,7 @@ pub record Passed (p : List ℕ) : Type 0 where
   pub groups : groupsWhole (sectionOf p 3) ≡ true
   pub pools : rowsFill 32 (sectionOf p 4) ≡ true
   pub few-keys : length (viewOf p .keys) ≤ 256
+  pub named : balancesNamed (length (viewOf p .keys)) (viewOf p .balances) ≡ true
   pub few : length (flatten (viewOf p)) ≤ 1024
 
 -- a check whose refusal has a number was passed, and the next one decides
@@ -44,7 +45,8 @@ below false x y h e = (refl, e)
 pub passed : (p : List ℕ) → refusalNumber (verdict p) ≡ 0 → Passed p
 unfolding verdict
 passed p e₀ =
-    let a₉ = cond (ltb 1024 (length (flatten (viewOf p)))) Invocations Good in
+    let a₁₀ = cond (ltb 1024 (length (flatten (viewOf p)))) Invocations Good in
+    let a₉ = cond (not (balancesNamed (length (viewOf p .keys)) (viewOf p .balances))) Balances a₁₀ in
     let a₈ = cond (ltb 256 (length (viewOf p .keys))) Keys a₉ in
     let a₇ = cond (not (rowsFill 32 (sectionOf p 4))) (Section 4) a₈ in
     let a₆ = cond (not (groupsWhole (sectionOf p 3))) (Section 3) a₇ in
@@ -60,7 +62,8 @@ passed p e₀ =
     let e₆ = past (groupsWhole (sectionOf p 3)) (Section 3) a₇ (omega arith) (e₅ .1) in
     let e₇ = past (rowsFill 32 (sectionOf p 4)) (Section 4) a₈ (omega arith) (e₆ .1) in
     let e₈ = below (ltb 256 (length (viewOf p .keys))) Keys a₉ (omega arith) (e₇ .1) in
-    let e₉ = below (ltb 1024 (length (flatten (viewOf p)))) Invocations Good (omega arith) (e₈ .1) in
+    let e₉ = past (balancesNamed (length (viewOf p .keys)) (viewOf p .balances)) Balances a₁₀ (omega arith) (e₈ .1) in
+    let e₁₀ = below (ltb 1024 (length (flatten (viewOf p)))) Invocations Good (omega arith) (e₉ .1) in
     record {
       size = e₁ .0;
       starts = e₂ .0;
@@ -70,7 +73,8 @@ passed p e₀ =
       groups = e₆ .0;
       pools = e₇ .0;
       few-keys = ltb-false 256 (length (viewOf p .keys)) (e₈ .0);
-      few = ltb-false 1024 (length (flatten (viewOf p))) (e₉ .0);
+      named = e₉ .0;
+      few = ltb-false 1024 (length (flatten (viewOf p))) (e₁₀ .0);
     }
 
 -- its size

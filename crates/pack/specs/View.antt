@@ -1,11 +1,12 @@
 -- What a pack says.
 -- Assumes nothing.
 use Prim.Native.Nat.{ℕ, _/_}
-use mathlib.Core.Bool.{cond}
-use mathlib.Core.List.{List, map}
-use lib.Dec.{eqb}
+use mathlib.Core.Bool.{Bool, cond}
+use mathlib.Core.List.{List, [], map}
+use lib.Dec.{ltb, eqb}
 use lib.ListN.{length, getD, drop}
 use Rattle.wire.specs.Le.{le}
+use Rattle.wire.specs.Below.{allBelow}
 use Rattle.ids.specs.Keys.{Key, zeroKey}
 use Rattle.ids.specs.Which.{which}
 use Rattle.ids.specs.declared.Id.{Id}
@@ -30,6 +31,10 @@ keysIn s = map (λ (r : List ℕ). (getD r 0 0, drop 1 r)) (rows 33 (length s / 
 -- section 1: rows of 36 bytes, account index and mint
 unfoldable pub balancesIn : List ℕ → List (ℕ × Key)
 balancesIn s = map (λ (r : List ℕ). (le 4 r 0, drop 4 r)) (rows 36 (length s / 36) s)
+
+-- what refusal 11 asks of balances: the account index of every row, whatever its mint is, is below the number of keys
+unfoldable pub balancesNamed : ℕ → List (ℕ × Key) → Bool
+balancesNamed keys bs = allBelow (λ i. ltb (getD bs i (0, []) .0) keys) (length bs)
 
 -- section 2: instructions, one after the other
 unfoldable pub outerIn : List ℕ → List Instruction

@@ -1,6 +1,6 @@
 // The pack: its trailer, its five sections, the refusals that its bytes can meet, and the invocations that they flatten to.
 //
-// Total over all bytes. `flatten` answers which of the refusals 2 to 6 a pack meets, and says where each invocation's instruction stands and where it was
+// Total over all bytes. `flatten` answers which of the refusals 2, 3, 4, 5, 11 and 6 a pack meets, and says where each invocation's instruction stands and where it was
 // run, `section` shows a part of the pack, and `program`, `accounts` and `data` read an instruction back from its offset.
 ghost use mathlib.Core.Path.{_≡_};
 ghost use Prim.Native.Nat.{_+_, _<_, _≤_};
@@ -23,13 +23,15 @@ pub use item::program;
 pub use trailer::section;
 use whole::Count;
 
-// What is wrong with a pack: nothing; its size or mark; its section starts; a row or item of a section, the lowest such; too many keys; too many invocations.
+// What is wrong with a pack: nothing; its size or mark; its section starts; a row or item of a section, the lowest such; too many keys; a balance row that
+// names no key; too many invocations.
 pub enum Verdict {
     Good,
     Mark,
     Starts,
     Section(u32),
     Keys,
+    Balances,
     Invocations,
 }
 
@@ -43,11 +45,12 @@ pub fn number(v: Verdict) -> u32
         Verdict::Starts => 3,
         Verdict::Section(_) => 4,
         Verdict::Keys => 5,
+        Verdict::Balances => 11,
         Verdict::Invocations => 6,
     }
 }
 
-// Its place: the section that is broken, else 0.
+// Its place: the section that is broken or names no key, else 0.
 pub fn place(v: Verdict) -> u32
     ensures { λ r. ⌜ r ≡ placeOf v ⌝ }
 {
@@ -57,6 +60,7 @@ pub fn place(v: Verdict) -> u32
         Verdict::Starts => 0,
         Verdict::Section(k) => k,
         Verdict::Keys => 0,
+        Verdict::Balances => 1,
         Verdict::Invocations => 0,
     }
 }
@@ -75,7 +79,8 @@ pub(crate) fn judge(pack: &[u8]) -> Verdict
     if !whole::keys(keys) {
         return Verdict::Section(0);
     }
-    if section(pack, 1).len() % 36 != 0 {
+    let balances = section(pack, 1);
+    if balances.len() % 36 != 0 {
         return Verdict::Section(1);
     }
     let Count::Of(outers) = whole::outers(section(pack, 2)) else {
@@ -89,6 +94,9 @@ pub(crate) fn judge(pack: &[u8]) -> Verdict
     }
     if 256 < keys.len() / 33 {
         return Verdict::Keys;
+    }
+    if !whole::balances(balances, keys.len() / 33) {
+        return Verdict::Balances;
     }
     if 1024 < outers {
         return Verdict::Invocations;

@@ -1,4 +1,4 @@
-// Whether rows, instructions and groups fill their section, and how many there are.
+// Whether rows, instructions and groups fill their section, how many there are, and whether balances name keys.
 ghost use mathlib.Core.Path.{_≡_};
 ghost use mathlib.Core.Bool.{cond};
 ghost use Prim.Native.Nat.{_+_, _≤_};
@@ -6,7 +6,7 @@ ghost use lib.Dec.{ltb};
 ghost use lib.ListN.{length};
 ghost use Rattle.wire.specs.Le.{le};
 ghost use Rattle.pack.specs.Items.{keysFill, outersWhole, heightGood, innersGood, innersEnd, groupsWhole};
-ghost use Rattle.pack.specs.View.{outerIn, groupsIn};
+ghost use Rattle.pack.specs.View.{balancesIn, balancesNamed, outerIn, groupsIn};
 ghost use Rattle.pack.specs.Flatten.{keptIn};
 ghost use Rattle.pack.specs.declared.whole.Count.the-variants.{Of, Broken};
 ghost use Rattle.pack.specs.declared.whole.Walk.the-variants.{To, Cut};
@@ -34,6 +34,21 @@ pub(crate) fn keys(s: &[u8]) -> bool
     let mut i = 0;
     while i < rows {
         if 1 < s[i * 33] {
+            return false;
+        }
+        i += 1;
+    }
+    true
+}
+
+// Section 1: whether the account index of every row, whatever its mint is, is below the number of keys.
+pub(crate) fn balances(s: &[u8], keys: usize) -> bool
+    ensures { λ r. ⌜ r ≡ balancesNamed keys (balancesIn (now (s .entry))) ⌝ }
+{
+    let rows = s.len() / 36;
+    let mut i = 0;
+    while i < rows {
+        if keys <= super::four(s, i * 36) as usize {
             return false;
         }
         i += 1;

@@ -2,10 +2,10 @@
 -- Assumes nothing.
 use Rattle.pack.specs.Sections.{marked, ordered, sectionOf}
 use Rattle.pack.specs.Items.{keysFill, rowsFill, outersWhole, groupsWhole}
-use Rattle.pack.specs.View.{outerIn, groupsIn, viewOf}
+use Rattle.pack.specs.View.{balancesNamed, outerIn, groupsIn, viewOf}
 use Rattle.pack.specs.Flatten.{keptIn, flatten}
 use Rattle.pack.specs.Verdict.{verdict}
-use Rattle.pack.proofs.Sizes.{keys-length, invocations-length, count-broken, count-of}
+use Rattle.pack.proofs.Sizes.{key-rows, keys-length, invocations-length, count-broken, count-of}
 use Prim.Native.Nat.{ℕ, _%_}
 use mathlib.Core.Path.{_≡_, sym, ap, _∙_}
 use mathlib.Core.Bool.{true, false}
@@ -100,6 +100,21 @@ few-keys : (c : tie.Else6) → ltb 256 (length (viewOf (pack-5 (c .before .befor
 few-keys c =
     let p = pack-5 (c .before .before) in
     le-ltb 256 (length (viewOf p .keys)) (omega (arith, keys-length p, keys-at (c .before .before), c .if6 .left))
+
+-- what the walk over the balances was asked, and answered
+named-is : (c : tie.After-balances)
+    → let p = pack-5 (c .before .before .before) in
+    c .balances .result ≡ balancesNamed (length (viewOf p .keys)) (viewOf p .balances)
+unfolding viewOf
+named-is c =
+    let k = section2-at (section3-at (section4-at (c .before .before .before))) in
+    let p = pack-2 k in
+    rw (key-rows (sectionOf p 0), ← section-at k .section .ensures, ← k .section2 .ensures) (c .balances .ensures)
+
+named-yes : (c : tie.Else7)
+    → let p = pack-5 (c .before .before .before .before) in
+    balancesNamed (length (viewOf p .keys)) (viewOf p .balances) ≡ true
+named-yes c = sym (named-is (c .before)) ∙ not-false _ (c .if7 .left)
 
 marked-requires : tie.Need-marked-requires
 marked-requires c κs = search needs
@@ -203,41 +218,56 @@ returns-8 c =
     let many = lt-ltb 256 (length (viewOf p .keys)) (omega (arith, keys-length p, keys-at d, c .if6 .taken)) in
     rw (w .0, w .1, w .2, w .3, outers-yes (section4-at d) .0, groups-yes d .0, pools-yes (c .before), many)
 
+balances-requires : tie.Need-balances-requires
+balances-requires c κs = search needs
+
 returns-9 : tie.Need-returns-9
 unfolding verdict
 returns-9 c =
-    let k = c .before in
+    let k = c .before .before in
     let d = k .before .before in
     let w = early (section3-at (section4-at d)) in
-    let o = outers-yes (section4-at d) in
-    let i = groups-yes d in
-    let p = pack-5 d in
-    let t = lt-ltb 1024 (length (flatten (viewOf p))) (omega (arith, invocations-length p, o .1, i .1)) in
-    rw (w .0, w .1, w .2, w .3, o .0, i .0, pools-yes (k .before), few-keys k, t)
+    let e = sym (named-is (c .before)) ∙ not-true _ (c .if7 .taken) in
+    rw (w .0, w .1, w .2, w .3, outers-yes (section4-at d) .0, groups-yes d .0, pools-yes (k .before), few-keys k, e)
 
 returns-10 : tie.Need-returns-10
 unfolding verdict
 returns-10 c =
-    let k = c .before .before in
+    let n = c .before in
+    let k = n .before .before in
     let d = k .before .before in
     let w = early (section3-at (section4-at d)) in
     let o = outers-yes (section4-at d) in
     let i = groups-yes d in
     let p = pack-5 d in
     let t = lt-ltb 1024 (length (flatten (viewOf p))) (omega (arith, invocations-length p, o .1, i .1)) in
-    rw (w .0, w .1, w .2, w .3, o .0, i .0, pools-yes (k .before), few-keys k, t)
+    rw (w .0, w .1, w .2, w .3, o .0, i .0, pools-yes (k .before), few-keys k, named-yes n, t)
 
 returns-11 : tie.Need-returns-11
 unfolding verdict
 returns-11 c =
-    let k = c .before .before in
+    let n = c .before .before in
+    let k = n .before .before in
+    let d = k .before .before in
+    let w = early (section3-at (section4-at d)) in
+    let o = outers-yes (section4-at d) in
+    let i = groups-yes d in
+    let p = pack-5 d in
+    let t = lt-ltb 1024 (length (flatten (viewOf p))) (omega (arith, invocations-length p, o .1, i .1)) in
+    rw (w .0, w .1, w .2, w .3, o .0, i .0, pools-yes (k .before), few-keys k, named-yes n, t)
+
+returns-12 : tie.Need-returns-12
+unfolding verdict
+returns-12 c =
+    let n = c .before .before in
+    let k = n .before .before in
     let d = k .before .before in
     let w = early (section3-at (section4-at d)) in
     let o = outers-yes (section4-at d) in
     let i = groups-yes d in
     let p = pack-5 d in
     let t = le-ltb 1024 (length (flatten (viewOf p))) (omega (arith, invocations-length p, o .1, i .1)) in
-    rw (w .0, w .1, w .2, w .3, o .0, i .0, pools-yes (k .before), few-keys k, t)
+    rw (w .0, w .1, w .2, w .3, o .0, i .0, pools-yes (k .before), few-keys k, named-yes n, t)
 
 pub judge-spec : {M : Type 1} → statement M
 judge-spec =
@@ -265,6 +295,8 @@ judge-spec =
     section-requires-5
     returns-7
     returns-8
+    balances-requires
     returns-9
     returns-10
-    returns-11)
+    returns-11
+    returns-12)
