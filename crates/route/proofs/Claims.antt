@@ -26,7 +26,7 @@ module _ {names p t0 t1 t2 t3 t4 : List ℕ} {r r′ : Answer} {o0 o1 o2 o3 o4 o
 module _ (names p : List ℕ) (l : Lent) where
   refused-by : {r : Routed} → Ways names p l r → r .answer .number ≢ 0 → r ≡ refused (r .answer .number) (r .answer .place) l
   unfolding refused accepted
-  refused-by (early n k h f) z = refl
+  refused-by (early n k i) z = refl
   refused-by (crowded x q h) z = refl
   refused-by (later x k q h f) z = refl
   refused-by (good x q s f) z = absurd (z refl)

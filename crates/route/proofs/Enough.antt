@@ -1,6 +1,6 @@
 -- Tables with the rows that `room` answers always suffice: each row of table 0 is of a key of its own, and no instruction makes two rows of another table.
 -- Assumes nothing.
-use mathlib.Core.Path.{_≡_, refl}
+use mathlib.Core.Path.{_≡_, refl, sym, _∙_}
 use mathlib.Core.Bool.{Bool, true, false, cond}
 use mathlib.Core.List.{List, [], _∷_}
 use mathlib.Core.Logic.{_≢_}
@@ -9,7 +9,7 @@ use Prim.Native.Nat.{ℕ, suc, _/_, _≤_, _<_}
 use native.Mathlib.Omega.{arith}
 use lib.Dec.{eqb}
 use lib.ListN.{length, length-map, length-append}
-use borrow.Author.Tests.{le-ltb, eq-eqb, ne-eqb, eqb-true}
+use borrow.Author.Tests.{le-ltb, eq-eqb, ne-eqb, eqb-true, eqb-false}
 use Rattle.ids.specs.Keys.{keyCount, keyOf}
 use Rattle.pack.specs.Sections.{sectionOf}
 use Rattle.pack.specs.View.{viewOf}
@@ -32,7 +32,7 @@ use Rattle.route.specs.Enough.{rowsFor, neededBy, needed, Enough}
 use Rattle.route.specs.Order.{instructionsIn, mintsIn}
 use Rattle.route.proofs.OrderKeys.{among}
 use Rattle.route.proofs.OrderMints.{answered, made}
-use Rattle.route.proofs.Ways.{few}
+use Rattle.route.proofs.Ways.{of-pack}
 
 -- what is answered of a pack that is refused
 pub needed-refused : (p : List ℕ) {v : Verdict} {a b : ℕ} → refusalNumber (verdict p) ≢ 0 → v ≡ verdict p → a ≡ refusalNumber v → b ≡ placeOf v
@@ -45,13 +45,14 @@ pub needed-rows : (p : List ℕ) {k n : ℕ} → refusalNumber (verdict p) ≡ 0
 unfolding neededBy
 needed-rows p e k n = rw (eq-eqb _ 0 e, k, n)
 
-needed-number : (p : List ℕ) → needed p .number < 7
+needed-number : (p : List ℕ) → needed p .number ≢ 8
 unfolding neededBy
-needed-number p = go (eqb (refusalNumber (verdict p)) 0)
+needed-number p = go (eqb (refusalNumber (verdict p)) 0) refl
   where
-    go : (b : Bool) → cond b (rowsFor (length (viewOf p .keys)) (length (flatten (viewOf p)))) (record { number = refusalNumber (verdict p); place = placeOf (verdict p); mints = 0; invocations = 0; transfers = 0; legs = 0; natives = 0 }) .number < 7
-    go true = omega arith
-    go false = few (verdict p)
+    go : (b : Bool) → eqb (refusalNumber (verdict p)) 0 ≡ b
+        → cond b (rowsFor (length (viewOf p .keys)) (length (flatten (viewOf p)))) (record { number = refusalNumber (verdict p); place = placeOf (verdict p); mints = 0; invocations = 0; transfers = 0; legs = 0; natives = 0 }) .number ≢ 8
+    go true e q = omega arith
+    go false e q = of-pack (verdict p) (eqb-false (refusalNumber (verdict p)) 0 e) .no-eight q
 
 one-row : {A : Type 0} (f : A → List ℕ) (o : Option A) → length (rowIf f o) ≤ 1
 one-row f none = omega arith
@@ -118,5 +119,5 @@ module _ (p : List ℕ) where
     room-suffices names h = go (eqb (length names) 88) refl
       where
         go : (b : Bool) → eqb (length names) 88 ≡ b → route names p l .answer .number ≢ 8
-        go true e q = omega (arith, q, (room-answers names (eqb-true (length names) 88 e) h) .0, needed-number p)
+        go true e q = needed-number p (sym ((room-answers names (eqb-true (length names) 88 e) h) .0) ∙ q)
         go false e q = absurd (omega (arith, rw e at q))

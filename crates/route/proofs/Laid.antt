@@ -29,6 +29,7 @@ use Rattle.route.specs.Order.{mintsIn, Succeeds}
 use Rattle.route.specs.Laid.{Laid, AllLaid}
 use Rattle.route.proofs.Widths.{invocations-rowed, transfers-rowed, legs-rowed, natives-rowed}
 use Rattle.route.proofs.Fitting.{Roomy}
+use Rattle.route.proofs.Refusals.{numbered}
 use Rattle.route.proofs.Ways.{tablesBy, Ways, early, crowded, later, good, tables-by, ways}
 use Rattle.route.proofs.OrderTable.{Rowed, flat, flat-length, placed-flat, rows-written, mint-rowed}
 use Rattle.route.proofs.OrderMints.{made, sized, rows-room}
@@ -96,7 +97,7 @@ module _ (names p : List ℕ) (l : Lent) where
 
   laid-by : {r : Routed} → Ways names p l r → Succeeds r → AllLaid names p l r
   unfolding refused
-  laid-by (early n k h f) e = absurd (omega arith)
+  laid-by (early n k i) e = absurd (numbered (i .listed) e)
   laid-by (crowded x q h) e = absurd (omega arith)
   laid-by (later x k q h f) e = absurd (omega arith)
   laid-by (good x q s f) e = accepted-laid x q f

@@ -10,10 +10,12 @@ pub mod Finishing
 pub mod OrderKeys
 pub mod OrderTable
 pub mod OrderMints
+pub mod Refusals
 pub mod Ways
 pub mod Order
 pub mod OrderCalls
 pub mod Enough
+pub mod Named
 pub mod Inferring
 pub mod Filling
 pub mod Success

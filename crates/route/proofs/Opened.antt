@@ -11,7 +11,7 @@ use Rattle.ids.specs.Which.{ofNumber, rowFrom, which, programAt}
 use Rattle.pack.specs.Invocation.{instructionAt}
 use Rattle.pack.specs.Sections.{mark, marked, startOf, ordered, hasSection, sectionOf}
 use Rattle.pack.specs.Items.{rows, rowsFill, keysFill, itemEnd, outersFrom, outersFill, heightAt, heightGood, innersEnd, innersGood, innersFrom, groupEnd, groupGood, groupAt, groupsFrom, groupsFill}
-use Rattle.pack.specs.View.{keysIn, balancesIn, outerIn, groupsIn, poolsIn, viewOf}
+use Rattle.pack.specs.View.{keysIn, balancesIn, balancesNamed, outerIn, groupsIn, poolsIn, viewOf}
 use Rattle.pack.specs.Flatten.{numbered, inside, flattenFrom, flatten}
 use Rattle.pack.specs.Verdict.{verdict}
 use Rattle.token.specs.Programs.{isToken, isToken2022, isSpl}
@@ -61,5 +61,5 @@ use Rattle.route.specs.Tables.{item, ownOf, flagsOf, legNumber, invocati
 use Rattle.route.specs.Route.{refused, accepted, fitted, passed, judged, route}
 
 unfoldable pub opened : Type 1
-unfolding flatMap le leBytes same zeroKey ids ofNumber rowFrom which programAt instructionAt mark marked startOf ordered hasSection sectionOf rows rowsFill keysFill itemEnd outersFrom outersFill heightAt heightGood innersEnd innersGood innersFrom groupEnd groupGood groupAt groupsFrom groupsFill keysIn balancesIn outerIn groupsIn poolsIn viewOf numbered inside flattenFrom flatten verdict isToken isToken2022 initialises plainTransfer checkedTransfer feeTransfer bothEnds records plain feeOf plainly checked transfer starts oneOf total size place standing role transferLayout transferChecked transferCheckedWithFee transferLayouts beginsAs lacksKey lacking reasonAmong reason transferRow isSpl isSystem funds syncs closes asked indexesBelow wrapped counted nativeAction fieldsOf is isFlag clmmLeg clmm orcaV1 orcaV2 orca cpmm modeOf launchLabLeg launchLab isV2 isV3 isBuy isExact isWrappedSol pumpFunPlaces pumpFunLeg pumpFun contains tagSize slices slicesFit swapLayout dlmm trackVolume pumpSwap pumpSwapLeg ammV4 valued byProgram swap endBytes keyBytes legRow ltKey gather lookup put note noteAll recorded fill spread step pass onceMore run runFrom infer insert sort clean final against isMint gives reaches reaching another several absent markOf mintTable finish mints mintIn balanceSays says moves evidenceOf transfersOf inferred higher inners descendant firstNot anyIn countIn sumIn atop testsAt lastBelow parentAt tab positionIn within insideOf rowsOf placed flagged invocationRow transferOf transferRows reasonIn legOf legRows actionOf actionRows programBits item ownOf flagsOf legNumber invocationAt tablesWith tablesIf tables refused accepted fitted passed judged route
+unfolding flatMap le leBytes same zeroKey ids ofNumber rowFrom which programAt instructionAt mark marked startOf ordered hasSection sectionOf rows rowsFill keysFill itemEnd outersFrom outersFill heightAt heightGood innersEnd innersGood innersFrom groupEnd groupGood groupAt groupsFrom groupsFill keysIn balancesIn balancesNamed outerIn groupsIn poolsIn viewOf numbered inside flattenFrom flatten verdict isToken isToken2022 initialises plainTransfer checkedTransfer feeTransfer bothEnds records plain feeOf plainly checked transfer starts oneOf total size place standing role transferLayout transferChecked transferCheckedWithFee transferLayouts beginsAs lacksKey lacking reasonAmong reason transferRow isSpl isSystem funds syncs closes asked indexesBelow wrapped counted nativeAction fieldsOf is isFlag clmmLeg clmm orcaV1 orcaV2 orca cpmm modeOf launchLabLeg launchLab isV2 isV3 isBuy isExact isWrappedSol pumpFunPlaces pumpFunLeg pumpFun contains tagSize slices slicesFit swapLayout dlmm trackVolume pumpSwap pumpSwapLeg ammV4 valued byProgram swap endBytes keyBytes legRow ltKey gather lookup put note noteAll recorded fill spread step pass onceMore run runFrom infer insert sort clean final against isMint gives reaches reaching another several absent markOf mintTable finish mints mintIn balanceSays says moves evidenceOf transfersOf inferred higher inners descendant firstNot anyIn countIn sumIn atop testsAt lastBelow parentAt tab positionIn within insideOf rowsOf placed flagged invocationRow transferOf transferRows reasonIn legOf legRows actionOf actionRows programBits item ownOf flagsOf legNumber invocationAt tablesWith tablesIf tables refused accepted fitted passed judged route
 opened = Type 0

@@ -37,6 +37,7 @@ use Rattle.route.specs.Route.{Lent, Routed, refused, accepted, route}
 use Rattle.route.specs.Order.{evidenceIn, plainsIn, mintsIn, SameEvidence, mintsLeft, Succeeds, InputTaken, NoRoom, FilledWith, FilledByChains}
 use Rattle.route.proofs.OrderTable.{mints-rows, mints-written}
 use Rattle.route.proofs.OrderMints.{made, sized, rows-room, same-evidence, same-plains, tables-alike}
+use Rattle.route.proofs.Refusals.{numbered}
 use Rattle.route.proofs.Ways.{Ways, early, crowded, later, good, ways}
 
 -- table 0 after a call that is not refused: the rows of the pack's mint table, and they are read back from the bytes
@@ -74,7 +75,7 @@ invocation-tests f vs =
 module _ {names p : List ℕ} {l : Lent} where
   left-by : {r : Routed} → Ways names p l r → Succeeds r → Left p l r
   unfolding refused accepted tablesWith
-  left-by (early n k h f) e = absurd (omega arith)
+  left-by (early n k i) e = absurd (numbered (i .listed) e)
   left-by (crowded x q h) e = absurd (omega arith)
   left-by (later x k q h f) e = absurd (omega arith)
   left-by (good x q s f) e =
@@ -92,35 +93,35 @@ module _ {names p : List ℕ} {l : Lent} where
 
   judged-by : {r : Routed} → Ways names p l r → InputTaken (r .answer) → Judged p l r
   unfolding refused accepted
-  judged-by (early n k h f) e = absurd (e n h (omega arith) refl)
+  judged-by (early n k i) e = absurd (e n (i .listed) (i .no-eight) refl)
   judged-by (crowded x q h) e = record { table = x; is = q; short = λ s. h; full = λ s. (refl, refl) }
   judged-by (later x k q h f) e = record { table = x; is = q; short = λ s. absurd (omega (arith, s .1)); full = λ s. absurd (omega arith) }
   judged-by (good x q s f) e = record { table = x; is = q; short = λ s. absurd (omega (arith, s .0)); full = λ s. absurd (omega (arith, f .mints)) }
 
   taken-by : {r : Routed} → Ways names p l r → InputTaken (r .answer) ↔ ((r .answer .number ≡ 0) ⊎ (r .answer .number ≡ 8))
   unfolding refused accepted
-  taken-by (early n k h f) = (λ e. absurd (e n h (omega arith) refl), λ s. absurd (⊎-elim (λ e. omega arith) (λ e. omega arith) s))
-  taken-by (crowded x q h) = (λ e. inr refl, λ s i a b e. omega arith)
-  taken-by (later x k q h f) = (λ e. inr refl, λ s i a b e. omega arith)
-  taken-by (good x q s f) = (λ e. inl refl, λ s i a b e. omega arith)
+  taken-by (early n k i) = (λ e. absurd (e n (i .listed) (i .no-eight) refl), λ s. absurd (⊎-elim (numbered (i .listed)) (i .no-eight) s))
+  taken-by (crowded x q h) = (λ e. inr refl, λ s k m b e. b (sym e))
+  taken-by (later x k q h f) = (λ e. inr refl, λ s k m b e. b (sym e))
+  taken-by (good x q s f) = (λ e. inl refl, λ s k m b e. numbered m (sym e))
 
   seven-by : {r : Routed} → Ways names p l r → r .answer .number ≢ 7
   unfolding refused accepted
-  seven-by (early n k h f) e = omega arith
+  seven-by (early n k i) e = i .no-seven e
   seven-by (crowded x q h) e = omega arith
   seven-by (later x k q h f) e = omega arith
   seven-by (good x q s f) e = omega arith
 
   passes-by : {r : Routed} → Ways names p l r → r .answer .passes ≤ 256
   unfolding refused accepted tablesWith
-  passes-by (early n k h f) = omega arith
+  passes-by (early n k i) = omega arith
   passes-by (crowded x q h) = omega arith
   passes-by (later x k q h f) = omega arith
   passes-by (good x q s f) = s
 
   tests-by : {r : Routed} → Ways names p l r → FewTests (r .answer .invocations) (r .answer .tests)
   unfolding refused accepted tablesWith
-  tests-by (early n k h f) = (λ e. refl, λ h. absurd (omega arith))
+  tests-by (early n k i) = (λ e. refl, λ h. absurd (omega arith))
   tests-by (crowded x q h) = (λ e. refl, λ h. absurd (omega arith))
   tests-by (later x k q h f) = (λ e. refl, λ h. absurd (omega arith))
   tests-by (good x q s f) = invocation-tests _ (flatten (viewOf p))
@@ -138,7 +139,7 @@ module _ (names p : List ℕ) (l : Lent) where
   pub few-tests : FewTests (route names p l .answer .invocations) (route names p l .answer .tests)
   few-tests = tests-by (ways names p l)
 
-  -- for `route`, to meet none of the refusals 1 to 7 is to be refused with 8 or not at all
+  -- for `route`, to meet none of the refusals but 8 is to be refused with 8 or not at all
   pub taken-number : InputTaken (route names p l .answer) ↔ ((route names p l .answer .number ≡ 0) ⊎ (route names p l .answer .number ≡ 8))
   taken-number = taken-by (ways names p l)
 
@@ -233,7 +234,7 @@ module _ (names : List ℕ) (l : Lent) {p q : List ℕ} (h : SameEvidence p q) (
   pub same-bytes-unjoined : Unjoined (evidenceIn p) (plainsIn p) → route names p l .mints ≡ route names q l .mints
   same-bytes-unjoined d = same-bytes (unjoined-apart d)
 
--- (iv) two packs with the same evidence, neither meeting refusals 1 to 7: want of room in table 0 is refused alike
+-- (iv) two packs with the same evidence, neither meeting any refusal but 8: want of room in table 0 is refused alike
 pub same-room : (names : List ℕ) (l : Lent) {p q : List ℕ} → SameEvidence p q → InputTaken (route names p l .answer) → InputTaken (route names q l .answer)
     → NoRoom (route names p l .answer) ↔ NoRoom (route names q l .answer)
 same-room names l {p} {q} h a b =

@@ -98,6 +98,6 @@ module _ {names p q t0 t1 t2 t3 t4 u0 u1 u2 u3 u4 : List ℕ} {r r′ : Answer} 
     pub same-table-unjoined : Unjoined (evidenceIn p) (plainsIn p) → o0 ≡ o0′
     same-table-unjoined d = same-table (unjoined-apart d)
 
-  -- (iv) neither meeting refusals 1 to 7: for want of room in table 0 both are refused, or neither
+  -- (iv) neither meeting any refusal but 8: for want of room in table 0 both are refused, or neither
   pub same-table-room : InputTaken r → InputTaken r′ → NoRoom r ↔ NoRoom r′
   same-table-room a b = rw (x .answer, answer-right) (same-room names here h (rw (x .answer) at a) (rw answer-right at b))

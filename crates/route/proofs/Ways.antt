@@ -2,7 +2,8 @@
 -- Assumes nothing.
 use mathlib.Core.Path.{_≡_, refl, sym, subst}
 use mathlib.Core.Bool.{Bool, true, false, cond}
-use mathlib.Core.List.{List}
+use mathlib.Core.Logic.{_≢_}
+use mathlib.Core.List.{List, List·Memᴰ, List·Memᴰ·head, List·Memᴰ·tail}
 use mathlib.Core.Option.{Option, some}
 use Prim.Native.Nat.{ℕ, _/_, _≤_, _<_}
 use native.Mathlib.Omega.{arith}
@@ -14,11 +15,12 @@ use Rattle.pack.specs.View.{viewOf}
 use Rattle.pack.specs.Flatten.{flatten}
 use Rattle.pack.specs.Verdict.{verdict, refusalNumber, placeOf}
 use Rattle.pack.specs.declared.Verdict.{Verdict}
-use Rattle.pack.specs.declared.Verdict.the-variants.{Good, Mark, Starts, Section, Keys, Invocations}
+use Rattle.pack.specs.declared.Verdict.the-variants.{Good, Mark, Starts, Section, Keys, Balances, Invocations}
 use Rattle.evidence.specs.MintTable.{MintAnswer}
 use Rattle.route.specs.Widths.{mintWidth}
 use Rattle.route.specs.Tables.{Tables, positionsOf, instructionsOf, tablesWith, tablesIf, tables}
 use Rattle.route.specs.Route.{Lent, Routed, refused, accepted, byRoom, fitted, passed, tablesIn, judged, route}
+use Rattle.route.specs.Refusals.{refusals, refusalNumbers}
 use Rattle.route.specs.Order.{mintsIn}
 use Rattle.route.proofs.Fitting.{Roomy, Room, first, behind, enough, measured}
 use Rattle.route.proofs.OrderMints.{answered}
@@ -27,22 +29,40 @@ use Rattle.route.proofs.OrderMints.{answered}
 abbrev pub tablesBy : List ℕ → List ℕ → MintAnswer → Tables
 tablesBy names p x = tablesWith names (sectionOf p 0) (viewOf p .pools) (positionsOf (flatten (viewOf p))) (instructionsOf (flatten (viewOf p))) x
 
--- refused with a number from 1 to 6; or, with the mint table x, for want of room in table 0 or in a later table; or accepted
+-- the number of a refusal that names or pack meet
+pub record OfInput (n : ℕ) : Type 0 where
+  pub listed : List·Memᴰ n refusalNumbers
+  pub no-seven : n ≢ 7
+  pub no-eight : n ≢ 8
+
+-- refused for names or pack; or, with the mint table x, for want of room in table 0 or in a later table; or accepted
 pub data Ways (names p : List ℕ) (l : Lent) : Routed → Type 0 where
-  early : (n k : ℕ) → 0 < n → n < 7 → Ways names p l (refused n k l)
+  early : (n k : ℕ) → OfInput n → Ways names p l (refused n k l)
   crowded : (x : MintAnswer) → mintsIn p ≡ some x → l .mints / mintWidth < x .room → Ways names p l (refused 8 0 l)
   later : (x : MintAnswer) (k : ℕ) → mintsIn p ≡ some x → x .room ≤ l .mints / mintWidth → 0 < k → Ways names p l (refused 8 k l)
   good : (x : MintAnswer) → mintsIn p ≡ some x → x .passes ≤ 256 → Roomy l (x .room) (accepted (tablesBy names p x) l .answer)
       → Ways names p l (accepted (tablesBy names p x) l)
 
--- the numbers of a pack's refusals
-pub few : (v : Verdict) → refusalNumber v < 7
-few Good = omega arith
-few Mark = omega arith
-few Starts = omega arith
-few (Section k) = omega arith
-few Keys = omega arith
-few Invocations = omega arith
+-- the first refusal of the table is that of names
+pub of-names : OfInput 1
+unfolding refusals
+of-names = record { listed = List·Memᴰ·head refl; no-seven = λ e. omega arith; no-eight = λ e. omega arith }
+
+-- and those of a pack follow
+pub of-pack : (v : Verdict) → refusalNumber v ≢ 0 → OfInput (refusalNumber v)
+unfolding refusals
+of-pack Good h = absurd (h refl)
+of-pack Mark h = record { listed = List·Memᴰ·tail (List·Memᴰ·head refl); no-seven = λ e. omega arith; no-eight = λ e. omega arith }
+of-pack Starts h =
+    record { listed = List·Memᴰ·tail (List·Memᴰ·tail (List·Memᴰ·head refl)); no-seven = λ e. omega arith; no-eight = λ e. omega arith }
+of-pack (Section k) h =
+    record { listed = List·Memᴰ·tail (List·Memᴰ·tail (List·Memᴰ·tail (List·Memᴰ·head refl))); no-seven = λ e. omega arith; no-eight = λ e. omega arith }
+of-pack Keys h =
+    record { listed = List·Memᴰ·tail (List·Memᴰ·tail (List·Memᴰ·tail (List·Memᴰ·tail (List·Memᴰ·head refl)))); no-seven = λ e. omega arith; no-eight = λ e. omega arith }
+of-pack Balances h =
+    record { listed = List·Memᴰ·tail (List·Memᴰ·tail (List·Memᴰ·tail (List·Memᴰ·tail (List·Memᴰ·tail (List·Memᴰ·head refl))))); no-seven = λ e. omega arith; no-eight = λ e. omega arith }
+of-pack Invocations h =
+    record { listed = List·Memᴰ·tail (List·Memᴰ·tail (List·Memᴰ·tail (List·Memᴰ·tail (List·Memᴰ·tail (List·Memᴰ·tail (List·Memᴰ·head refl)))))); no-seven = λ e. omega arith; no-eight = λ e. omega arith }
 
 module _ (names p : List ℕ) (l : Lent) where
   pub tables-by : {x : MintAnswer} → mintsIn p ≡ some x → tablesIn names p ≡ some (tablesBy names p x)
@@ -69,8 +89,8 @@ module _ (names p : List ℕ) (l : Lent) where
       checked true e =
           let y = answered p (eqb-true (refusalNumber (verdict p)) 0 e) in
           subst (λ (o : Option Tables). Ways names p l (passed o l)) (sym (tables-by (y .1))) (fitted-ways (y .1) (y .3))
-      checked false e = early (refusalNumber (verdict p)) (placeOf (verdict p)) (omega (arith, eqb-false (refusalNumber (verdict p)) 0 e)) (few (verdict p))
+      checked false e = early (refusalNumber (verdict p)) (placeOf (verdict p)) (of-pack (verdict p) (eqb-false (refusalNumber (verdict p)) 0 e))
 
       go : (b : Bool) → Ways names p l (cond b (judged names p l (verdict p)) (refused 1 0 l))
       go true = checked (eqb (refusalNumber (verdict p)) 0) refl
-      go false = early 1 0 (omega arith) (omega arith)
+      go false = early 1 0 of-names

@@ -17,7 +17,7 @@ use Rattle.route.specs.Route.{Lent}
 abbrev pub rowsFor : ℕ → ℕ → RowsNeeded
 rowsFor keys n = record { number = 0; place = 0; mints = keys; invocations = n; transfers = n; legs = n; natives = n }
 
--- refusals 2 to 6, by the pack's verdict, need no room
+-- the refusals of a pack, by its verdict, need no room
 unfoldable pub neededBy : List ℕ → Verdict → RowsNeeded
 neededBy p v =
     cond (eqb (refusalNumber v) 0) (rowsFor (length (viewOf p .keys)) (length (flatten (viewOf p))))

@@ -8,6 +8,7 @@ pub mod Row
 pub mod Widths
 pub mod Tables
 pub mod Route
+pub mod Refusals
 pub mod Enough
 pub mod Fit
 pub mod Arrays

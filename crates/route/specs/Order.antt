@@ -1,6 +1,6 @@
 -- What it is to speak of two packs with the same evidence, of the rows that stand in table 0's bytes, and of accounts that are filled in.
 -- Assumes nothing.
-use Prim.Native.Nat.{ℕ, _≤_}
+use Prim.Native.Nat.{ℕ}
 use mathlib.Core.Path.{_≡_}
 use mathlib.Core.List.{List, map, List·Memᴰ, List·Permᴰ}
 use mathlib.Core.Option.{Option}
@@ -22,6 +22,7 @@ use Rattle.route.specs.Widths.{mintWidth}
 use Rattle.route.specs.Tables.{instructionsOf}
 use Rattle.route.specs.declared.Answer.{Answer}
 use Rattle.route.specs.Route.{Routed}
+use Rattle.route.specs.Refusals.{refusalNumbers}
 
 -- the kept invocations of a pack without their positions: program index, accounts, data
 abbrev pub instructionsIn : List ℕ → List Instruction
@@ -61,9 +62,9 @@ mintsLeft r = mintsRead (r .answer .mints) (r .mints)
 abbrev pub Succeeds : Routed → Type 0
 Succeeds r = r .answer .number ≡ 0
 
--- names and pack are taken: the call meets none of the refusals 1 to 7, and only room may be wanting
+-- names and pack are taken: the call meets none of the refusals but 8, and only room may be wanting
 abbrev pub InputTaken : Answer → Type 0
-InputTaken r = (k : ℕ) → 1 ≤ k → k ≤ 7 → r .number ≢ k
+InputTaken r = (k : ℕ) → List·Memᴰ k refusalNumbers → k ≢ 8 → r .number ≢ k
 
 -- an answer that is this refusal
 abbrev pub RefusedWith : Answer → ℕ → ℕ → Type 0

@@ -102,7 +102,7 @@ passed (some t) l = fitted t l
 abbrev pub tablesIn : List ℕ → List ℕ → Option Tables
 tablesIn names p = tables names (sectionOf p 0) (viewOf p .balances) (flatten (viewOf p)) (viewOf p .pools)
 
--- refusals 2 to 6, by the pack's verdict
+-- the refusals of a pack, by its verdict
 unfoldable pub judged : List ℕ → List ℕ → Lent → Verdict → Routed
 judged names p l v = cond (eqb (refusalNumber v) 0) (passed (tablesIn names p) l) (refused (refusalNumber v) (placeOf v) l)
 

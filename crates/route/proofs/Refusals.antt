@@ -1,0 +1,177 @@
+-- The call gives the first refusal of the table that is met, and with it a place of that refusal.
+-- Assumes nothing.
+use mathlib.Core.Path.{_≡_, refl, sym, ap, subst, _∙_}
+use mathlib.Core.Logic.{_≢_}
+use mathlib.Core.Bool.{Bool, true, false, cond, not, _&&_}
+use mathlib.Core.List.{List, [], _∷_, List·Memᴰ, List·Memᴰ·head, List·Memᴰ·tail}
+use mathlib.Core.Option.{Option, none, some, Option·none-ne-some, Option·some-injective}
+use Prim.Native.Nat.{ℕ, _/_}
+use borrow.Author.Tests.{eqb-false, not-true}
+use lib.Dec.{ltb, eqb}
+use lib.ListN.{length}
+use Rattle.wire.proofs.Below.{and-left, and-right}
+use Rattle.pack.specs.declared.Verdict.{Verdict}
+use Rattle.pack.specs.declared.Verdict.the-variants.{Good, Mark, Starts, Section, Keys, Balances, Invocations}
+use Rattle.pack.specs.Sections.{marked, ordered, sectionOf}
+use Rattle.pack.specs.Items.{keysFill, rowsFill, outersWhole, groupsWhole}
+use Rattle.pack.specs.View.{balancesNamed, viewOf}
+use Rattle.pack.specs.Flatten.{flatten}
+use Rattle.pack.specs.Verdict.{verdict, refusalNumber, placeOf}
+use Rattle.route.specs.declared.Answer.{Answer}
+use Rattle.route.specs.Widths.{mintWidth, invocationWidth, transferWidth, legWidth, actionWidth}
+use Rattle.route.specs.Tables.{Tables}
+use Rattle.route.specs.Route.{Lent, refused, accepted, tooSmall, byRoom, fitted, passed, tablesIn, judged, route}
+use Rattle.route.specs.Refusals.{Refusal, broken, unfinished, crowds, refusals, refusalNumbers, metElse, firstMet}
+
+-- number and place of an answer
+abbrev pub told : Answer → ℕ × ℕ
+told r = (r .number, r .place)
+
+-- a list without 0
+abbrev without-0 : List ℕ → Bool
+without-0 [] = true
+without-0 (n ∷ l) = not (eqb n 0) && without-0 l
+
+not-0 : {n : ℕ} (l : List ℕ) → without-0 l ≡ true → List·Memᴰ n l → n ≢ 0
+not-0 (k ∷ l) e (List·Memᴰ·head q) z = eqb-false k 0 (not-true _ (and-left (not (eqb k 0)) (without-0 l) e)) (sym q ∙ z)
+not-0 (k ∷ l) e (List·Memᴰ·tail m) z = not-0 l (and-right (not (eqb k 0)) (without-0 l) e) m z
+
+-- number and place of a refusal of the table
+pub record Listed (number place : ℕ) : Type 0 where
+  pub refusal : Refusal
+  pub listed : List·Memᴰ refusal refusals
+  pub is : refusal .number ≡ number
+  pub own : List·Memᴰ place (refusal .places)
+
+-- every refusal has a number
+pub numbered : {n : ℕ} → List·Memᴰ n refusalNumbers → n ≢ 0
+unfolding refusals
+numbered m = not-0 refusalNumbers refl m
+
+-- a single place, and the first of five
+one-place : (k : ℕ) (b : Bool) {j : ℕ} → cond b (some k) none ≡ some j → List·Memᴰ j (k ∷ [])
+one-place k true e = List·Memᴰ·head (sym (Option·some-injective _ _ e))
+one-place k false e = absurd (Option·none-ne-some _ e)
+
+five-places : (a b c d e : Bool) {j : ℕ} → cond a (some 0) (cond b (some 1) (cond c (some 2) (cond d (some 3) (cond e (some 4) none)))) ≡ some j
+    → List·Memᴰ j (0 ∷ 1 ∷ 2 ∷ 3 ∷ 4 ∷ [])
+five-places true b c d e q = List·Memᴰ·head (sym (Option·some-injective _ _ q))
+five-places false true c d e q = List·Memᴰ·tail (List·Memᴰ·head (sym (Option·some-injective _ _ q)))
+five-places false false true d e q = List·Memᴰ·tail (List·Memᴰ·tail (List·Memᴰ·head (sym (Option·some-injective _ _ q))))
+five-places false false false true e q = List·Memᴰ·tail (List·Memᴰ·tail (List·Memᴰ·tail (List·Memᴰ·head (sym (Option·some-injective _ _ q)))))
+five-places false false false false true q = List·Memᴰ·tail (List·Memᴰ·tail (List·Memᴰ·tail (List·Memᴰ·tail (List·Memᴰ·head (sym (Option·some-injective _ _ q))))))
+five-places false false false false false q = absurd (Option·none-ne-some _ q)
+
+module _ (names p : List ℕ) (l : Lent) where
+  room-given : (t : Tables) (o : Option ℕ) → told (byRoom (accepted t l) (λ k. refused 8 k l) o .answer) ≡ metElse 8 o (0, 0)
+  unfolding accepted refused
+  room-given t none = refl
+  room-given t (some k) = refl
+
+  tables-given : (o : Option Tables) → told (passed o l .answer) ≡ metElse 7 (cond (unfinished o) (some 0) none) (metElse 8 (crowds l o) (0, 0))
+  unfolding passed fitted refused unfinished crowds
+  tables-given none = refl
+  tables-given (some t) = room-given t (tooSmall l (t .room) (accepted t l .answer))
+
+  -- of the refusals that are met the first one of the table is given
+  pub first-given : told (route names p l .answer) ≡ firstMet refusals names p l
+  unfolding route judged verdict refused broken refusals firstMet
+  first-given =
+      go (eqb (length names) 88) (marked p) (ordered p) (keysFill (sectionOf p 0)) (rowsFill 36 (sectionOf p 1)) (outersWhole (sectionOf p 2)) (groupsWhole (sectionOf p 3)) (rowsFill 32 (sectionOf p 4)) (ltb 256 (length (viewOf p .keys))) (balancesNamed (length (viewOf p .keys)) (viewOf p .balances)) (ltb 1024 (length (flatten (viewOf p))))
+    where
+      go : (a b c s₀ s₁ s₂ s₃ s₄ d e f : Bool)
+          → let v = cond (not b) Mark (cond (not c) Starts (cond (not s₀) (Section 0) (cond (not s₁) (Section 1) (cond (not s₂) (Section 2) (cond (not s₃) (Section 3) (cond (not s₄) (Section 4) (cond d Keys (cond (not e) Balances (cond f Invocations Good))))))))) in
+          told (cond a (cond (eqb (refusalNumber v) 0) (passed (tablesIn names p) l) (refused (refusalNumber v) (placeOf v) l)) (refused 1 0 l) .answer)
+          ≡ metElse 1 (cond (not a) (some 0) none) (metElse 2 (cond (not b) (some 0) none) (metElse 3 (cond (not c) (some 0) none) (metElse 4 (cond (not s₀) (some 0) (cond (not s₁) (some 1) (cond (not s₂) (some 2) (cond (not s₃) (some 3) (cond (not s₄) (some 4) none))))) (metElse 5 (cond d (some 0) none) (metElse 11 (cond (not e) (some 1) none) (metElse 6 (cond f (some 0) none) (metElse 7 (cond (unfinished (tablesIn names p)) (some 0) none) (metElse 8 (crowds l (tablesIn names p)) (0, 0)))))))))
+      go false b c s₀ s₁ s₂ s₃ s₄ d e f = refl
+      go true false c s₀ s₁ s₂ s₃ s₄ d e f = refl
+      go true true false s₀ s₁ s₂ s₃ s₄ d e f = refl
+      go true true true false s₁ s₂ s₃ s₄ d e f = refl
+      go true true true true false s₂ s₃ s₄ d e f = refl
+      go true true true true true false s₃ s₄ d e f = refl
+      go true true true true true true false s₄ d e f = refl
+      go true true true true true true true false d e f = refl
+      go true true true true true true true true true e f = refl
+      go true true true true true true true true false false f = refl
+      go true true true true true true true true false true true = refl
+      go true true true true true true true true false true false = tables-given (tablesIn names p)
+
+  -- a refusal of a list that is met
+  record FirstOf (xs : List Refusal) (number place : ℕ) : Type 0 where
+    refusal : Refusal
+    listed : List·Memᴰ refusal xs
+    is : refusal .number ≡ number
+    met : refusal .met names p l ≡ some place
+
+  found : (xs : List Refusal) → firstMet xs names p l .0 ≢ 0 → FirstOf xs (firstMet xs names p l .0) (firstMet xs names p l .1)
+  unfolding firstMet
+  found [] z = absurd (z refl)
+  found (x ∷ xs) z = go (x .met names p l) refl z (λ w. found xs w)
+    where
+      go : (o : Option ℕ) → x .met names p l ≡ o → metElse (x .number) o (firstMet xs names p l) .0 ≢ 0
+          → (firstMet xs names p l .0 ≢ 0 → FirstOf xs (firstMet xs names p l .0) (firstMet xs names p l .1))
+          → FirstOf (x ∷ xs) (metElse (x .number) o (firstMet xs names p l) .0) (metElse (x .number) o (firstMet xs names p l) .1)
+      go (some k) e z later = record { refusal = x; listed = List·Memᴰ·head refl; is = refl; met = e }
+      go none e z later =
+          let y = later z in
+          record { refusal = y .refusal; listed = List·Memᴰ·tail (y .listed); is = y .is; met = y .met }
+
+  -- each of a list's refusals is met at a place of its own
+  abbrev InPlaces : List Refusal → Type 0
+  InPlaces [] = Unit {0}
+  InPlaces (x ∷ xs) = ((k : ℕ) → x .met names p l ≡ some k → List·Memᴰ k (x .places)) × InPlaces xs
+
+  crowded-place : (o : Option Tables) {k : ℕ} → crowds l o ≡ some k → List·Memᴰ k (0 ∷ 1 ∷ 2 ∷ 3 ∷ 4 ∷ [])
+  unfolding crowds
+  crowded-place none e = absurd (Option·none-ne-some _ e)
+  crowded-place (some t) e =
+      let a = accepted t l .answer in
+      five-places
+      (ltb (l .mints / mintWidth) (t .room))
+      (ltb (l .invocations / invocationWidth) (a .invocations))
+      (ltb (l .transfers / transferWidth) (a .transfers))
+      (ltb (l .legs / legWidth) (a .legs))
+      (ltb (l .natives / actionWidth) (a .natives))
+      e
+
+  in-places : InPlaces refusals
+  unfolding refusals broken
+  in-places = (
+    λ k e. one-place 0 (not (eqb (length names) 88)) e,
+    (
+      λ k e. one-place 0 (not (marked p)) e,
+      (
+        λ k e. one-place 0 (not (ordered p)) e,
+        (
+          λ k e. five-places (not (keysFill (sectionOf p 0))) (not (rowsFill 36 (sectionOf p 1))) (not (outersWhole (sectionOf p 2))) (not (groupsWhole (sectionOf p 3))) (not (rowsFill 32 (sectionOf p 4))) e,
+          (
+            λ k e. one-place 0 (ltb 256 (length (viewOf p .keys))) e,
+            (
+              λ k e. one-place 1 (not (balancesNamed (length (viewOf p .keys)) (viewOf p .balances))) e,
+              (
+                λ k e. one-place 0 (ltb 1024 (length (flatten (viewOf p)))) e,
+                (
+                  λ k e. one-place 0 (unfinished (tablesIn names p)) e,
+                  (
+                    λ k e. crowded-place (tablesIn names p) e,
+                    tt,
+                  ),
+                ),
+              ),
+            ),
+          ),
+        ),
+      ),
+    ),
+  )
+
+  places-of : (xs : List Refusal) → InPlaces xs → {x : Refusal} {k : ℕ} → List·Memᴰ x xs → x .met names p l ≡ some k → List·Memᴰ k (x .places)
+  places-of (y ∷ xs) h (List·Memᴰ·head q) e = rw q (h .0 _ (rw q at e))
+  places-of (y ∷ xs) h (List·Memᴰ·tail m) e = places-of xs (h .1) m e
+
+  -- what is refused is refused with a number of the table, and at a place that this number has there
+  pub given-listed : route names p l .answer .number ≢ 0 → Listed (route names p l .answer .number) (route names p l .answer .place)
+  given-listed z =
+      let y = found refusals (λ w. z (ap (λ (t : ℕ × ℕ). t .0) first-given ∙ w)) in
+      subst (λ (t : ℕ × ℕ). Listed (t .0) (t .1)) (sym first-given)
+      (record { refusal = y .refusal; listed = y .listed; is = y .is; own = places-of refusals in-places (y .listed) (y .met) })
