@@ -46,10 +46,10 @@ pub extern "C" fn mbelaguy_month(
     month::month(report, rows, fed, transfers)
 }
 
-// The version, 0.5.0: 65,536 times the first number, 256 times the second, and the third.
+// The version, 0.6.0: 65,536 times the first number, 256 times the second, and the third.
 #[no_mangle]
 pub extern "C" fn mbelaguy_version() -> u32
-    ensures { λ r. ⌜ r ≡ 1280 ⌝ }
+    ensures { λ r. ⌜ r ≡ 1536 ⌝ }
 {
-    1280
+    1536
 }
