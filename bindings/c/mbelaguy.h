@@ -24,8 +24,8 @@ extern "C" {
 
 /* --------------------------------------------------------------- the version */
 
-#define MBELAGUY_VERSION "0.5.0"
-#define MBELAGUY_VERSION_NUMBER 1280 /* 65536 * first + 256 * second + third */
+#define MBELAGUY_VERSION "0.6.0"
+#define MBELAGUY_VERSION_NUMBER 1536 /* 65536 * first + 256 * second + third */
 
 /* MBELAGUY_VERSION_NUMBER of the library that is linked. */
 uint32_t mbelaguy_version(void);
@@ -65,7 +65,7 @@ mbelaguy_answer mbelaguy_route(
 
 /* Rows of each table, or a refusal and no rows. */
 typedef struct mbelaguy_rows {
-    uint32_t number;      /* 0, or MBELAGUY_REFUSED_MARK to MBELAGUY_REFUSED_INVOCATIONS */
+    uint32_t number;      /* 0, or MBELAGUY_REFUSED_MARK to .._INVOCATIONS, as they stand below */
     uint32_t place;       /* the section that a refusal is about, else 0 */
     uint32_t mints;       /* rows of table 0 */
     uint32_t invocations; /* rows of table 1 */
@@ -116,13 +116,15 @@ mbelaguy_month_answer mbelaguy_month(
 
 #define MBELAGUY_ACCEPTED 0
 
-/* Of a pack. Of those that apply, the one with the lowest number is given. */
+/* Of a pack. Of those that apply, the one that stands first here is given: 1, 2, 3, 4, 5, 11, 6, 7, 8. */
 #define MBELAGUY_REFUSED_NAMES 1       /* the names are not 88 bytes */
 #define MBELAGUY_REFUSED_MARK 2        /* the pack is too short or too long, or its mark is another */
 #define MBELAGUY_REFUSED_STARTS 3      /* the starts of the sections break their rule */
 #define MBELAGUY_REFUSED_SECTION 4     /* place: the lowest section with a partial row or item, a flag
                                           that is neither 0 nor 1, or a height beside flag 0 */
 #define MBELAGUY_REFUSED_KEYS 5        /* over MBELAGUY_MAX_KEYS */
+#define MBELAGUY_REFUSED_BALANCES 11   /* place: MBELAGUY_SECTION_BALANCES, where a row's account index is
+                                          not below the number of keys, whatever its mint is */
 #define MBELAGUY_REFUSED_INVOCATIONS 6 /* over MBELAGUY_MAX_INVOCATIONS are kept */
 #define MBELAGUY_REFUSED_PASSES 7      /* over MBELAGUY_MAX_PASSES; no pack comes near it */
 #define MBELAGUY_REFUSED_ROOM 8        /* place: the lowest table with fewer whole rows than needed */
@@ -172,7 +174,7 @@ mbelaguy_month_answer mbelaguy_month(
 #define MBELAGUY_TRAILER_STARTS 0    /* in the trailer: five u32, where each section starts */
 #define MBELAGUY_TRAILER_MARK 20     /* in the trailer: the four letters RTP1 */
 
-/* Sections; the places of MBELAGUY_REFUSED_SECTION. */
+/* Sections; the places of MBELAGUY_REFUSED_SECTION, and that of MBELAGUY_REFUSED_BALANCES. */
 #define MBELAGUY_SECTION_KEYS 0      /* rows: static, loaded writable, loaded readonly keys */
 #define MBELAGUY_SECTION_BALANCES 1  /* rows: token balances before, then after */
 #define MBELAGUY_SECTION_OUTER 2     /* instructions, back to back */
@@ -184,7 +186,7 @@ mbelaguy_month_answer mbelaguy_month(
 #define MBELAGUY_KEY_KEY 1           /* key */
 
 #define MBELAGUY_BALANCE_ROW 36
-#define MBELAGUY_BALANCE_ACCOUNT 0   /* u32: index into the keys */
+#define MBELAGUY_BALANCE_ACCOUNT 0   /* u32: index into the keys, below their number */
 #define MBELAGUY_BALANCE_MINT 4      /* key */
 
 #define MBELAGUY_POOL_ROW 32
@@ -384,6 +386,8 @@ static inline const char *mbelaguy_refusal(uint32_t number, uint32_t place)
         break;
     case MBELAGUY_REFUSED_KEYS:
         return "there are more than 256 keys";
+    case MBELAGUY_REFUSED_BALANCES:
+        return "a row's account index is not below the number of keys";
     case MBELAGUY_REFUSED_INVOCATIONS:
         return "there are more than 1,024 invocations";
     case MBELAGUY_REFUSED_PASSES:

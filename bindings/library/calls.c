@@ -2,7 +2,8 @@
  * Calls the library on the machine at hand, from a thread with the stack that a tablet gives a second one.
  *
  *     calls answers FILE   makes stored calls again (crates/replay/stdin) and prints what crates/replay prints of them;
- *                          then feeds a month; last, on standard error, how much stack a call took
+ *                          then calls with a balance row that names no key, and feeds a month; last, on standard
+ *                          error, how much stack a call took
  *     calls time FILE      prints how long a call takes with the names and the pack of FILE, in nanoseconds
  *
  * calls.mjs does the same with mbelaguy.wasm.
@@ -152,6 +153,31 @@ static const char *difference(const uint8_t *record, size_t length)
     return NULL;
 }
 
+/* ----------------------------------------------------------------- balances */
+
+/* One key, and a balance row with a zero mint: its account index is the key's, then the number of keys. */
+static void check_balances(void)
+{
+    enum { BALANCES = MBELAGUY_KEY_ROW, TRAILER = BALANCES + MBELAGUY_BALANCE_ROW };
+    static const uint8_t names[MBELAGUY_NAMES_BYTES];
+    static uint8_t pack[TRAILER + MBELAGUY_TRAILER_BYTES];
+    const call c = {names, pack, sizeof names, sizeof pack, {0}};
+    uint8_t *starts = pack + TRAILER + MBELAGUY_TRAILER_STARTS;
+    starts[4 * MBELAGUY_SECTION_BALANCES] = BALANCES;
+    for (int section = MBELAGUY_SECTION_OUTER; section <= MBELAGUY_SECTION_POOLS; section++)
+        starts[4 * section] = TRAILER;
+    memcpy(pack + TRAILER + MBELAGUY_TRAILER_MARK, "RTP1", 4);
+    for (uint8_t index = 0; index < 2; index++) {
+        uint32_t number = index ? MBELAGUY_REFUSED_BALANCES : MBELAGUY_ACCEPTED;
+        uint32_t place = index ? MBELAGUY_SECTION_BALANCES : 0;
+        pack[BALANCES + MBELAGUY_BALANCE_ACCOUNT] = index;
+        mbelaguy_answer answer = make(&c);
+        mbelaguy_rows rows = mbelaguy_room(pack, sizeof pack);
+        if (answer.number != number || answer.place != place || rows.number != number || rows.place != place)
+            fail("another answer to a balance row");
+    }
+}
+
 /* -------------------------------------------------------------------- month */
 
 static uint8_t transfers[FED * MBELAGUY_TRANSFER_ROW], other[MBELAGUY_TRANSFER_ROW];
@@ -299,6 +325,7 @@ static void *answers(void *unused)
         at += 4 + (length <= left ? length : left);
     }
     printf("%u answers, %u different\n", count, different);
+    check_balances();
     check_month();
     fprintf(stderr, "a call took %zu bytes of stack\n", depth());
     if (depth() > MBELAGUY_STACK)

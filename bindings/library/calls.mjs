@@ -1,7 +1,8 @@
 // Calls mbelaguy.wasm, as calls.c does the library:
 //
 //     node calls.mjs WASM answers FILE    makes stored calls again and prints what crates/replay prints of them;
-//                                         then feeds a month; last, on standard error, how much stack a call took
+//                                         then calls with a balance row that names no key, and feeds a month; last, on standard error,
+//                                         how much stack a call took
 //     node calls.mjs WASM time FILE       prints how long a call takes with the names and the pack of FILE, in nanoseconds
 //
 // All buffers lie in the module's memory, from __heap_base on; the answer goes to an address that comes before the other arguments.
@@ -93,6 +94,21 @@ function difference(record) {
         stored += used;
     }
     return null;
+}
+
+// What calls.c calls with: one key, and a balance row with a zero mint, whose account index is the key's, then the number of keys.
+function checkBalances() {
+    const balances = defined("KEY_ROW");
+    const trailer = balances + defined("BALANCE_ROW");
+    const [names, pack] = [Buffer.alloc(defined("NAMES_BYTES")), Buffer.alloc(trailer + defined("TRAILER_BYTES"))];
+    [0, balances, trailer, trailer, trailer].forEach((start, section) => pack.writeUInt32LE(start, trailer + defined("TRAILER_STARTS") + 4 * section));
+    pack.write("RTP1", trailer + defined("TRAILER_MARK"));
+    for (const wanted of [[0, 0], [defined("REFUSED_BALANCES"), defined("SECTION_BALANCES")]]) {
+        const answer = call(names, pack, [0, 0, 0, 0, 0]);
+        library.mbelaguy_room(answerAt, packAt + names.length, pack.length);
+        for (const told of [answer, numbers]) if (told[0] !== wanted[0] || told[1] !== wanted[1]) fail("another answer to a balance row");
+        pack.writeUInt32LE(1, balances + defined("BALANCE_ACCOUNT"));
+    }
 }
 
 // What calls.c feeds, and its report: each transfer is of the greatest amount with a fee of 1, of one mint, from an account of its own, the last
@@ -203,6 +219,7 @@ function answers() {
         at += 4 + record.length;
     }
     console.log(`${count} answers, ${different} different`);
+    checkBalances();
     checkMonth();
     const depth = top - memory.findIndex((byte) => byte !== FILL);
     console.error(`a call took ${depth} bytes of stack`);

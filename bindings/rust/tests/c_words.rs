@@ -57,10 +57,11 @@ fn compare(compiler: &str, language: &[&str]) {
         for place in 0..7 {
             let words = match Refusal::of(number, place) {
                 _ if number == 0 => "nothing is refused",
-                // The place of most refusals is 0 and says nothing.
+                // Most refusals have one place, and their words do without it.
                 Refusal::Unknown { number: 1..=3 | 5..=7 | 9..=10 | 19..=20, .. } => {
                     Refusal::of(number, 0).words()
                 }
+                Refusal::Unknown { number: 11, .. } => Refusal::Balances.words(),
                 refusal => refusal.words(),
             };
             assert_eq!(lines.next(), Some(&format!("{number} {place} {words}")[..]));

@@ -124,6 +124,7 @@ fn refusals() {
         ("STARTS", Refusal::Starts),
         ("SECTION", Refusal::Section(Section::Keys)),
         ("KEYS", Refusal::Keys),
+        ("BALANCES", Refusal::Balances),
         ("INVOCATIONS", Refusal::Invocations),
         ("PASSES", Refusal::Passes),
         ("ROOM", Refusal::Room(Table::Mints)),

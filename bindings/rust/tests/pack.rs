@@ -14,7 +14,7 @@ fn example() -> Pack {
     let inner = |height, instruction| Inner { height, instruction };
     Pack {
         keys: vec![KeyRow { whole: true, key: [7; 32] }, KeyRow { whole: false, key: [0; 32] }],
-        balances: vec![Balance { account: 70_000, mint: [9; 32] }],
+        balances: vec![Balance { account: 1, mint: [9; 32] }],
         outer: vec![instruction(1, &[0, 255], &[3; 300]), instruction(u32::MAX, &[], &[])],
         groups: vec![
             Group { outer: 5, instructions: vec![] },
@@ -69,6 +69,47 @@ fn counts_have_two_bytes() {
     let group = Group { outer: 0, instructions: vec![Inner::default(); 65_536] };
     let group = Pack { groups: vec![group], ..Pack::default() };
     assert_eq!(group.write(), Err(DoesNotFit::Instructions(65_536)));
+}
+
+/// By the index alone: the mint may be zero. With 300 keys an index has two bytes that are not 0.
+#[test]
+fn a_balance_names_a_key() {
+    for keys in [0, 1, 2, 300] {
+        for mint in [[0; 32], [9; 32]] {
+            let with = |account| Pack {
+                keys: vec![KeyRow { whole: true, key: [7; 32] }; keys],
+                balances: vec![Balance { account, mint }],
+                ..Pack::default()
+            };
+            let count = keys as u32;
+            if let Some(last) = count.checked_sub(1) {
+                let bytes = with(last).write().unwrap();
+                assert_eq!(bytes[keys * KEY_ROW..][..4], last.to_le_bytes());
+                assert_eq!(read(&bytes), Ok(with(last)));
+            }
+            for account in [count, u32::MAX] {
+                let none = DoesNotFit::Balance { account, keys };
+                assert_eq!(with(account).write(), Err(none));
+                assert_eq!(with(account).sections(), Err(none));
+            }
+        }
+    }
+}
+
+#[test]
+fn one_balance_that_names_no_key_is_enough() {
+    for row in 0..3 {
+        let mut pack = example();
+        pack.balances = vec![pack.balances[0]; 3];
+        let mut bytes = pack.write().unwrap();
+        pack.balances[row].account = 2;
+        let none = DoesNotFit::Balance { account: 2, keys: 2 };
+        assert_eq!(pack.write(), Err(none));
+        assert_eq!(none.to_string(), "a balance row names account 2, and there are 2 keys");
+        // Such bytes are read: what they say is a pack that a call refuses.
+        bytes[2 * KEY_ROW + row * BALANCE_ROW] = 2;
+        assert_eq!(read(&bytes), Ok(pack));
+    }
 }
 
 #[test]

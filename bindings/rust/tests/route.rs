@@ -1,8 +1,14 @@
 //! The call through the library: answers, refusals, reasons, tables of any size.
 
-use mbelaguy::pack::{Balance, Group, Inner, Instruction, KeyRow, Pack, MAX_BYTES};
+use mbelaguy::pack::{
+    join, sections, Balance, Group, Inner, Instruction, KeyRow, Pack, BALANCE_ROW, KEY_ROW,
+    MAX_BYTES,
+};
 use mbelaguy::rows::{Lack, Mark, Mint, Reason};
-use mbelaguy::{ids, route, route_into, Answer, Key, Names, Refusal, Section, Table, Tables};
+use mbelaguy::{
+    ids, room, route, route_into, Answer, Key, Names, Refusal, Section, Table, Tables, MOST_ROWS,
+    WIDTHS,
+};
 use std::fs;
 use std::iter::successors;
 
@@ -238,6 +244,86 @@ fn bad_use_is_an_error_value() {
     let mut flags = pack.clone();
     flags[0] = 2;
     assert_eq!(route(&names(), &flags, &mut full()), Err(Refusal::Section(Section::Keys)));
+}
+
+/// A pack's bytes with another account index in a balance row, also one that no pack is written with.
+fn with_account(pack: &Pack, row: usize, account: u32) -> Vec<u8> {
+    let mut bytes = pack.write().unwrap();
+    let at = pack.keys.len() * KEY_ROW + row * BALANCE_ROW;
+    bytes[at..at + 4].copy_from_slice(&account.to_le_bytes());
+    bytes
+}
+
+/// The call refuses a pack so, and `room` says the same.
+#[track_caller]
+fn refuses(expected: Refusal, pack: &[u8]) {
+    let mut tables = WIDTHS.map(|width| vec![255; width]);
+    let answer = route_into(&names(), pack, tables.each_mut().map(Vec::as_mut_slice));
+    assert_eq!(answer, Answer::refused(expected));
+    assert!(tables.concat().iter().all(|byte| *byte == 0));
+    assert_eq!(room(pack), Err(expected));
+}
+
+/// By the index alone: the mint may be zero.
+#[test]
+fn a_balance_that_names_no_key_is_refused() {
+    for mint in [[0; 32], [9; 32]] {
+        let pack = Pack { balances: vec![Balance { account: 0, mint }; 3], ..transfer() };
+        for row in 0..3 {
+            let last = with_account(&pack, row, 2);
+            assert!(route(&names(), &last, &mut Tables::full()).is_ok());
+            assert_eq!(room(&last), Ok([3, 1, 1, 1, 1]));
+            for account in [3, 4, 255, 256, 1 << 16, 1 << 24, 1 << 31, u32::MAX] {
+                refuses(Refusal::Balances, &with_account(&pack, row, account));
+            }
+        }
+    }
+    let no_keys = [vec![], vec![0; BALANCE_ROW], vec![], vec![], vec![]];
+    refuses(Refusal::Balances, &join(&no_keys));
+}
+
+/// So many keys and invocations, and a balance row.
+fn crowd(keys: usize, invocations: usize) -> Pack {
+    Pack {
+        keys: vec![KeyRow { whole: true, key: [1; 32] }; keys],
+        balances: vec![Balance { account: 0, mint: [9; 32] }],
+        outer: vec![Instruction::default(); invocations],
+        ..Pack::default()
+    }
+}
+
+#[test]
+fn balances_are_refused_after_what_cannot_be_read() {
+    let pack = with_account(&transfer(), 0, 3);
+    assert_eq!(route(&[0; 87], &pack, &mut Tables::full()), Err(Refusal::Names));
+    assert_eq!(room(&pack), Err(Refusal::Balances));
+    refuses(Refusal::Mark, &pack[..pack.len() - 1]);
+    refuses(Refusal::Starts, &pack[1..]);
+    for (damaged, section) in Section::ALL.into_iter().enumerate() {
+        let mut sections = sections(&pack).unwrap().map(<[u8]>::to_vec);
+        sections[damaged].push(0);
+        refuses(Refusal::Section(section), &join(&sections));
+    }
+}
+
+#[test]
+fn balances_are_refused_between_keys_and_invocations() {
+    for invocations in [1, 1_025] {
+        refuses(Refusal::Keys, &with_account(&crowd(257, invocations), 0, 256));
+        refuses(Refusal::Keys, &with_account(&crowd(257, invocations), 0, 257));
+        refuses(Refusal::Balances, &with_account(&crowd(256, invocations), 0, 256));
+    }
+    refuses(Refusal::Invocations, &with_account(&crowd(256, 1_025), 0, 255));
+    assert_eq!(room(&with_account(&crowd(256, 1_024), 0, 255)), Ok(MOST_ROWS));
+}
+
+#[test]
+fn balances_are_refused_before_a_lack_of_room() {
+    let pack = transfer().write().unwrap();
+    let none = || Tables::with_room([0; 5]);
+    assert_eq!(route(&names(), &pack, &mut none()), Err(Refusal::Room(Table::Mints)));
+    let pack = with_account(&transfer(), 0, 3);
+    assert_eq!(route(&names(), &pack, &mut none()), Err(Refusal::Balances));
 }
 
 #[test]

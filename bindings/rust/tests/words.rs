@@ -73,7 +73,7 @@ fn refusals_by_number_and_place() {
             known += u32::from(refusal != Refusal::Unknown { number, place });
         }
     }
-    assert_eq!(known, 6 + 5 + 5 + 4);
+    assert_eq!(known, 7 + 5 + 5 + 4);
 }
 
 #[test]
@@ -85,6 +85,11 @@ fn refusals_in_words() {
         "refusal 4, place 2 (section of outer instructions): it ends inside an instruction"
     );
     assert_eq!(
+        words(Refusal::Balances),
+        "refusal 11, place 1 (section of balances): \
+         a row's account index is not below the number of keys"
+    );
+    assert_eq!(
         words(Refusal::Room(Table::Natives)),
         "refusal 8, place 4 (table of native actions): it has fewer whole rows than are needed"
     );
@@ -93,7 +98,7 @@ fn refusals_in_words() {
         "refusal 9, place 0: the report has fewer whole rows than are needed"
     );
     assert_eq!(
-        words(Refusal::of(11, 0)),
-        "refusal 11, place 0: not known here; the library is of another release"
+        words(Refusal::of(21, 0)),
+        "refusal 21, place 0: not known here; the library is of another release"
     );
 }

@@ -84,7 +84,7 @@ pub struct KeyRow {
 /// The mint of the account at an index.
 #[derive(Clone, Copy, Debug, PartialEq, Eq)]
 pub struct Balance {
-    /// Index into the keys.
+    /// Index into the keys, below their number: a call refuses any other, whatever the mint is.
     pub account: u32,
     /// The mint that the node reported.
     pub mint: Key,

@@ -4,7 +4,8 @@ use super::{Balance, Group, Inner, Instruction, KeyRow, Pack, MARK, MAX_BYTES, T
 use crate::bytes::Reader;
 use crate::{Refusal, Section};
 
-/// What a pack says, or the refusal from 2 to 4 that it meets.
+/// What a pack says, or the refusal from 2 to 4 that it meets. One that a call refuses for what it says,
+/// such as a balance row that names no key, is read all the same.
 pub fn read(bytes: &[u8]) -> Result<Pack, Refusal> {
     let [keys, balances, outer, inner, pools] = sections(bytes)?;
     Ok(Pack {

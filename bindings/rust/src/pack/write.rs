@@ -7,11 +7,15 @@ use std::fmt;
 /// What has no room in a pack, and how much of it there is; or a balance row that names no key.
 ///
 /// ```
-/// use mbelaguy::pack::{DoesNotFit, Instruction, Pack};
+/// use mbelaguy::pack::{Balance, DoesNotFit, Instruction, Pack};
 ///
 /// let long = Instruction { data: vec![0; 70_000], ..Instruction::default() };
 /// let pack = Pack { outer: vec![long], ..Pack::default() };
 /// assert_eq!(pack.write(), Err(DoesNotFit::Data(70_000)));
+///
+/// let balances = vec![Balance { account: 0, mint: [9; 32] }];
+/// let pack = Pack { balances, ..Pack::default() };
+/// assert_eq!(pack.write(), Err(DoesNotFit::Balance { account: 0, keys: 0 }));
 /// ```
 #[derive(Clone, Copy, Debug, PartialEq, Eq)]
 pub enum DoesNotFit {
