@@ -1,6 +1,6 @@
 //! The command: what it prints, where, and its exit status.
 
-use mbelaguy::pack::{Instruction, Pack, MAX_BYTES};
+use mbelaguy::pack::{self, Instruction, Pack, KEY_ROW, MAX_BYTES};
 use show::month::{csv, page, text, Count, Ledger, LeftOut};
 use show::Keys;
 use std::fs;
@@ -34,6 +34,19 @@ fn finish(mut child: Child, input: &[u8]) -> (Option<i32>, String, String) {
 fn sample(ending: &str) -> Vec<u8> {
     fs::read(format!("{SAMPLE}.{ending}")).unwrap()
 }
+
+/// The sample, but for its first balance row, which names the key behind the last.
+fn stray() -> Vec<u8> {
+    let mut input = sample("bin");
+    let keys = pack::read(&input[88..]).unwrap().keys.len();
+    let at = 88 + keys * KEY_ROW;
+    input[at..at + 4].copy_from_slice(&(keys as u32).to_le_bytes());
+    input
+}
+
+/// What is told of it.
+const STRAY: &str = "refusal 11, place 1 (section of balances): \
+                     a row's account index is not below the number of keys";
 
 #[test]
 fn the_sample_is_shown() {
@@ -95,10 +108,13 @@ fn a_refusal_has_number_place_and_words() {
     let flag = "it ends inside a row, or a flag is neither 0 nor 1";
     let words = format!("refusal 4, place 0 (section of keys): {flag}");
     assert_eq!(show(&["-"], &input), told(&words));
+    assert_eq!(show(&["-"], &stray()), told(STRAY));
     let page = Path::new(env!("CARGO_TARGET_TMPDIR")).join("refused.html");
     let asked = ["--html", page.to_str().unwrap(), "-"];
-    assert_eq!(show(&asked, &input), told(&words));
-    assert!(fs::read_to_string(page).unwrap().contains(&words));
+    for (input, words) in [(input, &words[..]), (stray(), STRAY)] {
+        assert_eq!(show(&asked, &input), told(words));
+        assert!(fs::read_to_string(&page).unwrap().contains(words));
+    }
 }
 
 #[test]
@@ -233,13 +249,14 @@ fn refused_packs_are_named_and_not_counted() {
     let mut spoiled = input.clone();
     spoiled[88] = 2;
     let long = [&input[..], &[0; 70_000]].concat();
-    let files: [(&str, &[u8]); 6] = [
+    let files: [(&str, &[u8]); 7] = [
         ("1", &input),
         ("2", &spoiled),
         ("3", &[]),
         ("4", &input[88..]),
         ("5", &input),
         ("6", &long),
+        ("8", &stray()),
     ];
     let packs = folder("spoiled", &files);
     fs::create_dir(format!("{packs}/7")).unwrap();
@@ -251,6 +268,7 @@ fn refused_packs_are_named_and_not_counted() {
         ("4", "refusal 3, place 0: ".to_string()),
         ("6", format!("refusal 2, place 0: {size}")),
         ("7", "Is a directory".to_string()),
+        ("8", STRAY.to_string()),
     ];
     let (status, printed, told) = show(&["month", &packs], &[]);
     assert_eq!(status, Some(1));
@@ -268,7 +286,7 @@ fn refused_packs_are_named_and_not_counted() {
         .ends_with("; it is a pack without names, which have to stand before it"));
     let ledger = samples(2, &left_out);
     assert_eq!(printed, text(&ledger, Keys::Short));
-    assert_eq!(printed.lines().nth(1), Some("5 of 7 files are not counted"));
+    assert_eq!(printed.lines().nth(1), Some("6 of 8 files are not counted"));
     let made = folder("made of spoiled", &[]);
     let (values, written) = (format!("{made}/totals.csv"), format!("{made}/may.html"));
     let words = ["month", "--csv", &values, "--html", &written, &packs];

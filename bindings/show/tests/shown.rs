@@ -278,10 +278,15 @@ fn a_page_stands_alone() {
 
 #[test]
 fn a_refusal_is_told() {
-    let page = page("<\"a\" & b>", &Err(Refusal::Keys), Keys::Short);
-    assert!(page.contains("<h1>&lt;&quot;a&quot; &amp; b&gt;</h1>"));
-    assert!(page.contains("refusal 5, place 0: there are more than 256 keys"));
-    let answer = Answer::refused(Refusal::Starts);
-    let tables = Tables::with_room([0; 5]);
-    assert_eq!(Report::new(&[], &answer, &tables).err(), Some(Refusal::Starts));
+    let keys = "refusal 5, place 0: there are more than 256 keys";
+    let balances = "refusal 11, place 1 (section of balances): \
+                    a row's account index is not below the number of keys";
+    for (refusal, words) in [(Refusal::Keys, keys), (Refusal::Balances, balances)] {
+        let page = page("<\"a\" & b>", &Err(refusal), Keys::Short);
+        assert!(page.contains("<h1>&lt;&quot;a&quot; &amp; b&gt;</h1>"));
+        assert!(page.contains(&format!("<p class=\"refusal\">{words}</p>")), "{page}");
+        let answer = Answer::refused(refusal);
+        let tables = Tables::with_room([0; 5]);
+        assert_eq!(Report::new(&[], &answer, &tables).err(), Some(refusal));
+    }
 }
