@@ -11,9 +11,9 @@ const CRATE: &str = include_str!("../src/refusal.rs");
 /// A number, and the places that it comes with.
 type Row = (u32, Vec<u32>);
 
-/// The definition has a line for each, as `refusal 11 (1 ∷ []) ...`.
+/// The definition has a line for each, as `entry 11 (1 ∷ []) ...`.
 fn defined() -> Vec<Row> {
-    let lines = DEFINED.lines().filter_map(|line| line.trim().strip_prefix("refusal "));
+    let lines = DEFINED.lines().filter_map(|line| line.trim().strip_prefix("entry "));
     let lines = lines.filter(|line| line.starts_with(|letter: char| letter.is_ascii_digit()));
     let row = |line: &str| {
         let (number, rest) = line.split_once(" (").expect("places behind the number");
