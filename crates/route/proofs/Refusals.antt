@@ -21,7 +21,7 @@ use Rattle.route.specs.declared.Answer.{Answer}
 use Rattle.route.specs.Widths.{mintWidth, invocationWidth, transferWidth, legWidth, actionWidth}
 use Rattle.route.specs.Tables.{Tables}
 use Rattle.route.specs.Route.{Lent, refused, accepted, tooSmall, byRoom, fitted, passed, tablesIn, judged, route}
-use Rattle.route.specs.Refusals.{Refusal, broken, unfinished, crowds, refusals, refusalNumbers, metElse, firstMet}
+use Rattle.route.specs.Refusals.{Refusal, broken, unfinished, crowds, refusalTable, refusalNumbers, metElse, firstMet}
 
 -- number and place of an answer
 abbrev pub told : Answer → ℕ × ℕ
@@ -39,13 +39,13 @@ not-0 (k ∷ l) e (List·Memᴰ·tail m) z = not-0 l (and-right (not (eqb k 0)) 
 -- number and place of a refusal of the table
 pub record Listed (number place : ℕ) : Type 0 where
   pub refusal : Refusal
-  pub listed : List·Memᴰ refusal refusals
+  pub listed : List·Memᴰ refusal refusalTable
   pub is : refusal .number ≡ number
   pub own : List·Memᴰ place (refusal .places)
 
 -- every refusal has a number
 pub numbered : {n : ℕ} → List·Memᴰ n refusalNumbers → n ≢ 0
-unfolding refusals
+unfolding refusalTable
 numbered m = not-0 refusalNumbers refl m
 
 -- a single place, and the first of five
@@ -74,8 +74,8 @@ module _ (names p : List ℕ) (l : Lent) where
   tables-given (some t) = room-given t (tooSmall l (t .room) (accepted t l .answer))
 
   -- of the refusals that are met the first one of the table is given
-  pub first-given : told (route names p l .answer) ≡ firstMet refusals names p l
-  unfolding route judged verdict refused broken refusals firstMet
+  pub first-given : told (route names p l .answer) ≡ firstMet refusalTable names p l
+  unfolding route judged verdict refused broken refusalTable firstMet
   first-given =
       go (eqb (length names) 88) (marked p) (ordered p) (keysFill (sectionOf p 0)) (rowsFill 36 (sectionOf p 1)) (outersWhole (sectionOf p 2)) (groupsWhole (sectionOf p 3)) (rowsFill 32 (sectionOf p 4)) (ltb 256 (length (viewOf p .keys))) (balancesNamed (length (viewOf p .keys)) (viewOf p .balances)) (ltb 1024 (length (flatten (viewOf p))))
     where
@@ -134,8 +134,8 @@ module _ (names p : List ℕ) (l : Lent) where
       (ltb (l .natives / actionWidth) (a .natives))
       e
 
-  in-places : InPlaces refusals
-  unfolding refusals broken
+  in-places : InPlaces refusalTable
+  unfolding refusalTable broken
   in-places = (
     λ k e. one-place 0 (not (eqb (length names) 88)) e,
     (
@@ -172,6 +172,6 @@ module _ (names p : List ℕ) (l : Lent) where
   -- what is refused is refused with a number of the table, and at a place that this number has there
   pub given-listed : route names p l .answer .number ≢ 0 → Listed (route names p l .answer .number) (route names p l .answer .place)
   given-listed z =
-      let y = found refusals (λ w. z (ap (λ (t : ℕ × ℕ). t .0) first-given ∙ w)) in
+      let y = found refusalTable (λ w. z (ap (λ (t : ℕ × ℕ). t .0) first-given ∙ w)) in
       subst (λ (t : ℕ × ℕ). Listed (t .0) (t .1)) (sym first-given)
-      (record { refusal = y .refusal; listed = y .listed; is = y .is; own = places-of refusals in-places (y .listed) (y .met) })
+      (record { refusal = y .refusal; listed = y .listed; is = y .is; own = places-of refusalTable in-places (y .listed) (y .met) })

@@ -20,7 +20,7 @@ use Rattle.evidence.specs.MintTable.{MintAnswer}
 use Rattle.route.specs.Widths.{mintWidth}
 use Rattle.route.specs.Tables.{Tables, positionsOf, instructionsOf, tablesWith, tablesIf, tables}
 use Rattle.route.specs.Route.{Lent, Routed, refused, accepted, byRoom, fitted, passed, tablesIn, judged, route}
-use Rattle.route.specs.Refusals.{refusals, refusalNumbers}
+use Rattle.route.specs.Refusals.{refusalTable, refusalNumbers}
 use Rattle.route.specs.Order.{mintsIn}
 use Rattle.route.proofs.Fitting.{Roomy, Room, first, behind, enough, measured}
 use Rattle.route.proofs.OrderMints.{answered}
@@ -45,12 +45,12 @@ pub data Ways (names p : List ℕ) (l : Lent) : Routed → Type 0 where
 
 -- the first refusal of the table is that of names
 pub of-names : OfInput 1
-unfolding refusals
+unfolding refusalTable
 of-names = record { listed = List·Memᴰ·head refl; no-seven = λ e. omega arith; no-eight = λ e. omega arith }
 
 -- and those of a pack follow
 pub of-pack : (v : Verdict) → refusalNumber v ≢ 0 → OfInput (refusalNumber v)
-unfolding refusals
+unfolding refusalTable
 of-pack Good h = absurd (h refl)
 of-pack Mark h = record { listed = List·Memᴰ·tail (List·Memᴰ·head refl); no-seven = λ e. omega arith; no-eight = λ e. omega arith }
 of-pack Starts h =

@@ -47,8 +47,8 @@ unfoldable pub crowds : Lent → Option Tables → Option ℕ
 crowds l none = none
 crowds l (some t) = tooSmall l (t .room) (accepted t l .answer)
 
-unfoldable pub refusals : List Refusal
-refusals =
+unfoldable pub refusalTable : List Refusal
+refusalTable =
     -- the length of the names
     entry 1 (0 ∷ []) (λ names p l. metAt 0 (not (eqb (length names) 88))) ∷
     -- size and mark of the pack
@@ -71,7 +71,7 @@ refusals =
 
 -- their numbers
 abbrev pub refusalNumbers : List ℕ
-refusalNumbers = map (λ (x : Refusal). x .number) refusals
+refusalNumbers = map (λ (x : Refusal). x .number) refusalTable
 
 -- number and place where a refusal is met, else those of the refusals after it
 abbrev pub metElse : ℕ → Option ℕ → ℕ × ℕ → ℕ × ℕ
