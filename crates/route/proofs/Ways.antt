@@ -3,7 +3,7 @@
 use mathlib.Core.Path.{_≡_, refl, sym, subst}
 use mathlib.Core.Bool.{Bool, true, false, cond}
 use mathlib.Core.Logic.{_≢_}
-use mathlib.Core.List.{List, List·Memᴰ, List·Memᴰ·head, List·Memᴰ·tail}
+use mathlib.Core.List.{List, List·Memᴰ}
 use mathlib.Core.Option.{Option, some}
 use Prim.Native.Nat.{ℕ, _/_, _≤_, _<_}
 use native.Mathlib.Omega.{arith}
@@ -17,6 +17,7 @@ use Rattle.pack.specs.Verdict.{verdict, refusalNumber, placeOf}
 use Rattle.pack.specs.declared.Verdict.{Verdict}
 use Rattle.pack.specs.declared.Verdict.the-variants.{Good, Mark, Starts, Section, Keys, Balances, Invocations}
 use Rattle.evidence.specs.MintTable.{MintAnswer}
+use Rattle.mints.proofs.Sorting.{getD-mem}
 use Rattle.route.specs.Widths.{mintWidth}
 use Rattle.route.specs.Tables.{Tables, positionsOf, instructionsOf, tablesWith, tablesIf, tables}
 use Rattle.route.specs.Route.{Lent, Routed, refused, accepted, byRoom, fitted, passed, tablesIn, judged, route}
@@ -46,23 +47,18 @@ pub data Ways (names p : List ℕ) (l : Lent) : Routed → Type 0 where
 -- the first refusal of the table is that of names
 pub of-names : OfInput 1
 unfolding refusalTable
-of-names = record { listed = List·Memᴰ·head refl; no-seven = λ e. omega arith; no-eight = λ e. omega arith }
+of-names = record { listed = getD-mem refusalNumbers 0 (omega arith); no-seven = λ e. omega arith; no-eight = λ e. omega arith }
 
 -- and those of a pack follow
 pub of-pack : (v : Verdict) → refusalNumber v ≢ 0 → OfInput (refusalNumber v)
 unfolding refusalTable
 of-pack Good h = absurd (h refl)
-of-pack Mark h = record { listed = List·Memᴰ·tail (List·Memᴰ·head refl); no-seven = λ e. omega arith; no-eight = λ e. omega arith }
-of-pack Starts h =
-    record { listed = List·Memᴰ·tail (List·Memᴰ·tail (List·Memᴰ·head refl)); no-seven = λ e. omega arith; no-eight = λ e. omega arith }
-of-pack (Section k) h =
-    record { listed = List·Memᴰ·tail (List·Memᴰ·tail (List·Memᴰ·tail (List·Memᴰ·head refl))); no-seven = λ e. omega arith; no-eight = λ e. omega arith }
-of-pack Keys h =
-    record { listed = List·Memᴰ·tail (List·Memᴰ·tail (List·Memᴰ·tail (List·Memᴰ·tail (List·Memᴰ·head refl)))); no-seven = λ e. omega arith; no-eight = λ e. omega arith }
-of-pack Balances h =
-    record { listed = List·Memᴰ·tail (List·Memᴰ·tail (List·Memᴰ·tail (List·Memᴰ·tail (List·Memᴰ·tail (List·Memᴰ·head refl))))); no-seven = λ e. omega arith; no-eight = λ e. omega arith }
-of-pack Invocations h =
-    record { listed = List·Memᴰ·tail (List·Memᴰ·tail (List·Memᴰ·tail (List·Memᴰ·tail (List·Memᴰ·tail (List·Memᴰ·tail (List·Memᴰ·head refl)))))); no-seven = λ e. omega arith; no-eight = λ e. omega arith }
+of-pack Mark h = record { listed = getD-mem refusalNumbers 1 (omega arith); no-seven = λ e. omega arith; no-eight = λ e. omega arith }
+of-pack Starts h = record { listed = getD-mem refusalNumbers 2 (omega arith); no-seven = λ e. omega arith; no-eight = λ e. omega arith }
+of-pack (Section k) h = record { listed = getD-mem refusalNumbers 3 (omega arith); no-seven = λ e. omega arith; no-eight = λ e. omega arith }
+of-pack Keys h = record { listed = getD-mem refusalNumbers 4 (omega arith); no-seven = λ e. omega arith; no-eight = λ e. omega arith }
+of-pack Balances h = record { listed = getD-mem refusalNumbers 5 (omega arith); no-seven = λ e. omega arith; no-eight = λ e. omega arith }
+of-pack Invocations h = record { listed = getD-mem refusalNumbers 6 (omega arith); no-seven = λ e. omega arith; no-eight = λ e. omega arith }
 
 module _ (names p : List ℕ) (l : Lent) where
   pub tables-by : {x : MintAnswer} → mintsIn p ≡ some x → tablesIn names p ≡ some (tablesBy names p x)
