@@ -3,7 +3,8 @@
 use crate::listing::listing;
 use crate::sample;
 use mbelaguy::ids::SPL_TOKEN;
-use mbelaguy::pack::{join, Group, Inner, Instruction, KeyRow, Pack, MAX_BYTES, TRAILER};
+use mbelaguy::pack::{join, Group, Inner, Instruction, KeyRow, Pack};
+use mbelaguy::pack::{BALANCE_ROW, KEY_ROW, MAX_BYTES, TRAILER};
 use mbelaguy::MAX_INVOCATIONS;
 
 /// What the program `routes_cases` reads and what it has to print: each file's path, and its bytes.
@@ -21,10 +22,14 @@ pub fn files() -> Result<Vec<(String, Vec<u8>)>, String> {
 fn inputs() -> Result<Vec<(&'static str, Vec<u8>)>, String> {
     let [(_, sample), ..] = sample::files()?;
     let inner_cut = [vec![], vec![], vec![], vec![0; 5], vec![]];
+    let mut second_key = vec![0; BALANCE_ROW];
+    second_key[0] = 1;
+    let balance_of_no_key = [vec![1; KEY_ROW], second_key, vec![], vec![], vec![]];
     Ok(vec![
         ("names_cut", vec![0; 87]),
         ("no_pack", unnamed(&[])),
         ("inner_cut", unnamed(&join(&inner_cut))),
+        ("balance_of_no_key", unnamed(&join(&balance_of_no_key))),
         ("height_absent", unnamed(&pack(&height_absent())?)),
         ("reasons", unnamed(&pack(&reasons())?)),
         ("transfers_401", unnamed(&pack(&transfers(401))?)),

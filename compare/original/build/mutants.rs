@@ -42,12 +42,6 @@ pub const MUTANTS: &[Mutant] = &[
         "false",
     ),
     mutant(
-        "a balance's index is cut to a byte",
-        "key(&keys, balance.account_index)",
-        "balance.account_index",
-        "balance.account_index % 256",
-    ),
-    mutant(
         "a checked transfer records its source alone",
         "if checked_transfer(ix) {\n            let mint = account(ix, &keys, 1);\n            record(&mut mints, account(ix, &keys, 0), mint);\n            \
          record(&mut mints, account(ix, &keys, 2), mint);",

@@ -110,7 +110,10 @@ pub fn examined(examined: &Examined) -> Outcome {
     let steps = examined.pack.steps();
     same("kept invocations", n, steps.len())?;
     hold("steps", steps.iter().zip(invocations).all(|(step, one)| is_step(step, one)))?;
-    hold("limits", n <= MAX_INVOCATIONS && examined.pack.keys.len() <= MAX_KEYS)?;
+    let keys = examined.pack.keys.len();
+    hold("limits", n <= MAX_INVOCATIONS && keys <= MAX_KEYS)?;
+    let mut balances = examined.pack.balances.iter();
+    hold("balance rows name keys", balances.all(|balance| (balance.account as usize) < keys))?;
     let ends: Vec<_> = (0..n).map(|i| end(invocations, i)).collect();
     same("ends", invocations.iter().map(|one| one.end).collect(), ends.clone())?;
     same("tests by the loop", counted_tests(invocations), blocks::tests(&ends))?;

@@ -22,8 +22,8 @@ pub fn first_of(
         if found.iter().all(|(_, _, first)| first.is_some()) {
             break;
         }
-        // Refusals 1 to 7 are decided without the original.
-        if matches!(reply.answer.number, 1..=7) {
+        // All refusals but those of passes and of room are decided before the original is asked.
+        if !matches!(reply.answer.number, 0 | 7 | 8) {
             continue;
         }
         for (_, broken, first) in found.iter_mut().filter(|(_, _, first)| first.is_none()) {

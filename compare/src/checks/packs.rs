@@ -4,6 +4,7 @@ use super::{invariants, rows, same, Outcome};
 use crate::generate::case;
 use crate::oracle::{examine_broken, fit};
 use crate::stored;
+use mbelaguy::{pack, Refusal};
 use std::ops::Range;
 
 /// All invariants over the packs of some seeds.
@@ -24,6 +25,10 @@ fn one(seed: u64) -> Outcome {
         if reply.answer.number == 0 {
             rows::agree(examined, &reply, &case.pack)?;
         }
+    }
+    if let Err(Refusal::Balances) = examined {
+        let written = pack::read(&case.pack).map(|pack| pack.write().is_ok());
+        same("written with rows that name no key", written, Ok(false))?;
     }
     invariants::reply(&case, &examined, &reply)?;
     let unbroken = examine_broken(None, &case.names, &case.pack);

@@ -2,7 +2,7 @@
 
 use super::{same, Example, Outcome};
 use crate::oracle::reply;
-use mbelaguy::pack::{join, Group, Inner, Instruction, KeyRow, Pack, MAX_BYTES, TRAILER};
+use mbelaguy::pack::{join, Group, Inner, Instruction, Key, KeyRow, Pack, MAX_BYTES, TRAILER};
 
 pub const REFUSALS: &[Example] = &[
     ("1: names of another length, before anything else", names),
@@ -11,6 +11,9 @@ pub const REFUSALS: &[Example] = &[
     ("4: the lowest section that is not whole", sections),
     ("4: flags and heights, in dropped groups too", flags),
     ("5: over 256 keys, before the invocations", keys),
+    ("11: a balance index at or above the number of keys", balances),
+    ("11: whatever the mint is, in any row", any_balance),
+    ("11: after 1 to 5, before 6 and 8", balances_in_order),
     ("6: over 1,024 kept invocations, before room", invocations),
     ("6: dropped groups do not count", dropped),
     ("8: the lowest table that lacks a row", room),
@@ -98,6 +101,69 @@ fn keys() -> Outcome {
     refused(&write(&with_keys(256)), 0, 0)?;
     let outer = with_outers(1_025).outer;
     refused(&write(&Pack { outer, ..with_keys(257) }), 5, 0)
+}
+
+/// The sections of a pack with one balance row more for each index, whatever it names.
+fn with_balances(pack: &Pack, mint: Key, indexes: &[u32]) -> [Vec<u8>; 5] {
+    let mut sections = pack.sections().expect("counts stay below 65,536");
+    for index in indexes {
+        sections[1].extend(index.to_le_bytes());
+        sections[1].extend(mint);
+    }
+    sections
+}
+
+fn balances() -> Outcome {
+    for count in [1, 2, 255, 256] {
+        let balance = |index| join(&with_balances(&with_keys(count), [9; 32], &[index]));
+        let keys = count as u32;
+        for taken in [0, keys - 1] {
+            with_room(&balance(taken), [65, 0, 0, 0, 0], 0, 0)?;
+        }
+        for past in [keys, keys + 1, 256, keys + 255, 65_536, keys + 65_535, u32::MAX] {
+            with_room(&balance(past), [65, 0, 0, 0, 0], 11, 1)?;
+        }
+    }
+    refused(&join(&with_balances(&Pack::default(), [9; 32], &[0])), 11, 1)
+}
+
+fn any_balance() -> Outcome {
+    for mint in [[0; 32], [9; 32]] {
+        for (indexes, number, place) in [
+            ([1, 2, 0], 0, 0),
+            ([3, 2, 0], 11, 1),
+            ([1, 3, 0], 11, 1),
+            ([1, 2, 3], 11, 1),
+            ([3, 3, 3], 11, 1),
+        ] {
+            let sections = with_balances(&with_keys(3), mint, &indexes);
+            with_room(&join(&sections), [65, 0, 0, 0, 0], number, place)?;
+        }
+    }
+    refused(&join(&with_balances(&Pack::default(), [0; 32], &[0])), 11, 1)
+}
+
+fn balances_in_order() -> Outcome {
+    let sections = with_balances(&with_keys(1), [9; 32], &[1]);
+    let bytes = join(&sections);
+    let answer = reply(&[0; 87], &bytes, &[0; 5]).answer;
+    same("answer", (answer.number, answer.place), (1, 0))?;
+    let trailer = bytes.len() - TRAILER;
+    for (at, number) in [(bytes.len() - 1, 2), (trailer, 3), (trailer + 16, 3)] {
+        let mut bytes = bytes.clone();
+        bytes[at] += 1;
+        refused(&bytes, number, 0)?;
+    }
+    for section in 0..5 {
+        let mut sections = sections.clone();
+        sections[section].extend([0; 5]);
+        refused(&join(&sections), 4, section as u32)?;
+    }
+    for (count, number, place) in [(256, 11, 1), (257, 5, 0)] {
+        refused(&join(&with_balances(&with_keys(count), [9; 32], &[257])), number, place)?;
+    }
+    refused(&join(&with_balances(&with_outers(1_025), [9; 32], &[0])), 11, 1)?;
+    refused(&join(&with_balances(&with_outers(1), [9; 32], &[0])), 11, 1)
 }
 
 fn invocations() -> Outcome {

@@ -1,8 +1,10 @@
-//! Damage for every refusal: names, mark, trailer, sections, one or two at a time.
+//! Damage for every refusal: names, mark, trailer, sections, balance rows, one or two at a time.
 
+use super::extremes::{with_invocations, with_keys};
 use super::rng::Rng;
 use super::{mixed, sections, write};
-use mbelaguy::pack::{join, Pack, KEY_ROW, MAX_BYTES, TRAILER};
+use mbelaguy::pack::{join, Pack, BALANCE_ROW, KEY_ROW, MAX_BYTES, TRAILER};
+use mbelaguy::{MAX_INVOCATIONS, MAX_KEYS};
 use original::names::Names;
 
 /// Names and a pack of which at least one is damaged.
@@ -23,6 +25,60 @@ pub fn damaged(names: Names, rng: &mut Rng) -> (Vec<u8>, Vec<u8>) {
         _ => bytes = bad_mark(bad_starts(bytes, rng), rng),
     }
     (names, bytes)
+}
+
+/// Names and a pack with balance rows that name no key. Every other pack has one thing more that is
+/// refused, or as many keys as can be, or none.
+pub fn stray(names: Names, rng: &mut Rng) -> (Vec<u8>, Vec<u8>) {
+    let pack = mixed(names, rng);
+    let mut names = names.to_vec();
+    let beside = rng.below(24);
+    let pack = match beside {
+        0 => with_keys(pack, MAX_KEYS, rng),
+        1 => with_keys(pack, MAX_KEYS + 1, rng),
+        2 => with_invocations(pack, MAX_INVOCATIONS + 1, rng),
+        3 => Pack { keys: Vec::new(), balances: Vec::new(), ..pack },
+        _ => pack,
+    };
+    let mut sections = sections(&pack);
+    name_no_key(&mut sections, rng);
+    if let 4..=7 = beside {
+        damage_section(&mut sections, rng);
+    }
+    let mut bytes = join(&sections);
+    match beside {
+        8 => names = damaged_names(names, rng),
+        9 | 10 => bytes = bad_mark(bytes, rng),
+        11 | 12 => bytes = bad_starts(bytes, rng),
+        _ => {}
+    }
+    (names, bytes)
+}
+
+/// Makes the first balance row, the last, another one or all of them name no key, some of these with a
+/// zero mint. Where there is no row one is added.
+fn name_no_key(sections: &mut [Vec<u8>; 5], rng: &mut Rng) {
+    let [keys, balances, ..] = sections;
+    if balances.is_empty() {
+        balances.extend(rng.array::<BALANCE_ROW>());
+    }
+    let rows = balances.len() / BALANCE_ROW;
+    let some = rng.below(rows);
+    for row in rng.pick(&[0..1, rows - 1..rows, some..some + 1, 0..rows]) {
+        let (index, mint) = balances[row * BALANCE_ROW..][..BALANCE_ROW].split_at_mut(4);
+        index.copy_from_slice(&past(keys.len() / KEY_ROW, rng).to_le_bytes());
+        if rng.chance(20) {
+            mint.fill(0);
+        }
+    }
+}
+
+/// An index that is no key's: just past the keys, at the end of a byte, a key's if cut to a byte or to
+/// two, and the last of all.
+fn past(keys: usize, rng: &mut Rng) -> u32 {
+    let some = rng.below(keys.max(1)) as u32;
+    let keys = keys as u32;
+    rng.pick(&[keys, keys + 1, 255, 256, some + 256, some + 65_536, u32::MAX]).max(keys)
 }
 
 /// Some bytes changed, anywhere in the pack.

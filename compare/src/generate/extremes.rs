@@ -114,7 +114,7 @@ pub fn limit(names: Names, rng: &mut Rng) -> Vec<u8> {
     }
 }
 
-fn with_keys(mut pack: Pack, count: usize, rng: &mut Rng) -> Pack {
+pub fn with_keys(mut pack: Pack, count: usize, rng: &mut Rng) -> Pack {
     while pack.keys.len() < count {
         pack.keys.push(KeyRow { whole: true, key: rng.array() });
     }
@@ -123,7 +123,7 @@ fn with_keys(mut pack: Pack, count: usize, rng: &mut Rng) -> Pack {
 
 /// So many kept invocations: short ones are added as one long group, or as outers with a group of a
 /// late one.
-fn with_invocations(mut pack: Pack, count: usize, rng: &mut Rng) -> Pack {
+pub fn with_invocations(mut pack: Pack, count: usize, rng: &mut Rng) -> Pack {
     if pack.outer.is_empty() {
         pack.outer.push(Instruction::default());
     }
@@ -220,8 +220,8 @@ fn empty_groups(mut pack: Pack, rng: &mut Rng) -> Pack {
 /// Hundreds of balances or pools before the others.
 fn many_rows(mut pack: Pack, rng: &mut Rng) -> Pack {
     let count = rng.between(260, 1_000);
-    if rng.chance(50) {
-        let account = rng.below(pack.keys.len() + 1) as u32;
+    if rng.chance(50) && !pack.keys.is_empty() {
+        let account = rng.below(pack.keys.len()) as u32;
         let balances = (0..count).map(|_| Balance { account, mint: rng.array() });
         pack.balances.splice(0..0, balances);
     } else {

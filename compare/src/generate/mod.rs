@@ -47,6 +47,7 @@ enum Shape {
     Groups,
     Limit,
     Damaged,
+    Stray,
     Altered,
 }
 
@@ -58,7 +59,8 @@ fn names_and_pack(rng: &mut Rng) -> (Vec<u8>, Vec<u8>) {
         (70, Shape::Tree),
         (60, Shape::Groups),
         (30, Shape::Limit),
-        (150, Shape::Damaged),
+        (115, Shape::Damaged),
+        (35, Shape::Stray),
         (50, Shape::Altered),
     ]);
     let pack = match shape {
@@ -68,6 +70,7 @@ fn names_and_pack(rng: &mut Rng) -> (Vec<u8>, Vec<u8>) {
         Shape::Groups => write(&groups(names, rng)),
         Shape::Limit => extremes::limit(names, rng),
         Shape::Damaged => return damage::damaged(names, rng),
+        Shape::Stray => return damage::stray(names, rng),
         Shape::Altered => damage::altered(write(&mixed(names, rng)), rng),
     };
     (names.to_vec(), pack)
@@ -79,7 +82,7 @@ fn write(pack: &Pack) -> Vec<u8> {
 }
 
 fn sections(pack: &Pack) -> [Vec<u8>; 5] {
-    pack.sections().expect("generated counts stay below 65,536")
+    pack.sections().expect("generated counts stay below 65,536, and balance rows name keys")
 }
 
 /// A pack like those of real transactions, with every kind of instruction.

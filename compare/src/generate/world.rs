@@ -112,25 +112,23 @@ impl World {
 
     pub fn balances(&self, rng: &mut Rng) -> Vec<Balance> {
         let count = rng.weigh(&[(2, 0), (3, 2), (3, 5), (2, 9)]) + rng.below(2);
-        (0..count).map(|_| self.balance(rng)).collect()
+        match self.keys.len() {
+            0 => Vec::new(),
+            keys => (0..count).map(|_| self.balance((keys - 1) as u8, rng)).collect(),
+        }
     }
 
-    fn balance(&self, rng: &mut Rng) -> Balance {
-        let index = self.token_account(rng);
-        let account = match rng.below(40) {
-            0 => u32::from(index) + 256,
-            1 => u32::from(index) + 65_536,
-            2 => self.keys.len() as u32,
-            3 => u32::MAX,
-            _ => u32::from(index),
-        };
+    /// A row that names a key, the last one more often than others.
+    fn balance(&self, last: u8, rng: &mut Rng) -> Balance {
+        let index = self.token_account(rng).min(last);
+        let index = if rng.below(40) < 4 { last } else { index };
         let mint = match rng.below(20) {
             0 => [0; 32],
             1 => rng.array(),
             2 | 3 => original::ids()[WRAPPED_SOL],
             _ => self.key(self.mint(index, rng)),
         };
-        Balance { account, mint }
+        Balance { account: index.into(), mint }
     }
 
     /// Graduated pools: mostly keys that swaps use, also zero and unknown ones, some twice.

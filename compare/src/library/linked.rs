@@ -43,7 +43,7 @@ fn difference(case: &Case, reply: &Reply) -> Option<String> {
     let lent: [usize; 5] = std::array::from_fn(|t| case.lengths[t] / WIDTHS[t]);
     let suffices = match (reply.answer.number, room(&case.pack)) {
         (0, Ok(rows)) => (0..5).all(|t| reply.answer.counts[t] as usize <= rows[t]),
-        (2..=6, Err(refusal)) => Some(refusal) == reply.answer.refusal(),
+        (2..=6 | 11, Err(refusal)) => Some(refusal) == reply.answer.refusal(),
         (8, Ok(rows)) => lent[reply.answer.place as usize] < rows[reply.answer.place as usize],
         // Whatever the names are: of other refusals nothing is said.
         (number, _) => number == 1 || number == 7,

@@ -26,12 +26,12 @@ pub struct Mints {
 }
 
 impl Mints {
+    /// Of a pack whose balance rows all name a key.
     pub fn of(pack: &Pack, facts: &Facts) -> Self {
         let mut recorded = BTreeMap::new();
         let mut plain = Vec::new();
         for balance in &pack.balances {
-            let account = pack.keys.get(balance.account as usize).map_or(ZERO, |row| row.key);
-            record(&mut recorded, account, balance.mint);
+            record(&mut recorded, pack.keys[balance.account as usize].key, balance.mint);
         }
         for invocation in &facts.invocations {
             let account = |index: usize| account(pack, invocation, index);

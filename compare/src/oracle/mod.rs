@@ -48,7 +48,7 @@ pub fn reply(names: &[u8], bytes: &[u8], lengths: &[usize; 5]) -> Reply {
     fit(&examine(names, bytes), lengths)
 }
 
-/// What the original says about a pack, or a refusal from 1 to 7.
+/// What the original says about a pack, or the refusal, of all but 8, that it meets.
 pub fn examine(names: &[u8], bytes: &[u8]) -> Result<Examined, Refusal> {
     examine_by(&original::facts, &reason::reason, names, bytes)
 }
@@ -117,6 +117,10 @@ fn examine_by(
     let pack = pack::read(bytes)?;
     if pack.keys.len() > MAX_KEYS {
         return Err(Refusal::Keys);
+    }
+    // By the index alone, whatever the mint is.
+    if pack.balances.iter().any(|balance| balance.account as usize >= pack.keys.len()) {
+        return Err(Refusal::Balances);
     }
     if pack.steps().len() > MAX_INVOCATIONS {
         return Err(Refusal::Invocations);

@@ -1,7 +1,8 @@
 //! What occurs among generated packs. Each feature has a name and is counted; the list of features
 //! that must occur stands here, the code that notes them in `packs` and `invocations`; of reasons both
-//! stand in `reasons`.
+//! stand in `reasons`, of balance rows that name no key in `balances`.
 
+mod balances;
 mod invocations;
 mod packs;
 mod reasons;
@@ -68,8 +69,7 @@ const SINGLE: &[&str] = &[
     "keys that differ in their last byte only",
     "keys that differ in their first byte only",
     "key with flag 0",
-    "balance index out of range",
-    "balance index past 65,535",
+    "balance index one below the number of keys",
     "balance with a zero mint",
     "program index out of range",
     "program index past 65,535",
@@ -82,6 +82,7 @@ const SINGLE: &[&str] = &[
     "over 255 pools",
     "over 255 balances",
     "256 keys accepted",
+    "256 keys and balance index 255 accepted",
     "257 keys refused",
     "1,024 invocations accepted",
     "1,024 transfers",
@@ -169,8 +170,9 @@ const SINGLE: &[&str] = &[
 
 /// All features that must occur.
 fn required() -> Vec<String> {
-    let mut names: Vec<String> = SINGLE.iter().map(|name| name.to_string()).collect();
-    for refusal in ["0 0", "1 0", "2 0", "3 0", "5 0", "6 0"] {
+    let single = SINGLE.iter().chain(balances::REQUIRED);
+    let mut names: Vec<String> = single.map(|name| name.to_string()).collect();
+    for refusal in ["0 0", "1 0", "2 0", "3 0", "5 0", "11 1", "6 0"] {
         names.push(format!("answer {refusal}"));
     }
     for place in 0..5 {
@@ -219,9 +221,11 @@ impl Coverage {
         Coverage(required().into_iter().map(|name| (name, 0)).collect())
     }
 
-    /// A call that is refused shows its refusal alone: what its pack holds leaves nothing in the tables.
+    /// A call that is refused shows its refusal and balance rows that name no key: what else its pack
+    /// holds leaves nothing in the tables.
     fn note_call(&mut self, case: &Case, examined: &Result<Examined, Refusal>, reply: &Reply) {
         self.note_answer(case, reply);
+        self.note_balances(case, reply);
         let Ok(examined) = examined else { return };
         self.note_room(case, examined);
         if reply.answer.number != 0 {

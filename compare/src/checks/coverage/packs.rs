@@ -80,9 +80,9 @@ impl Coverage {
         self.note_if("keys that differ in their last byte only", near(|key| &key[..31]));
         self.note_if("keys that differ in their first byte only", near(|key| &key[1..]));
         let past = |index: &u32| *index as usize >= keys.len();
-        let mut balances = pack.balances.iter().map(|balance| balance.account);
-        self.note_if("balance index out of range", balances.clone().any(|index| past(&index)));
-        self.note_if("balance index past 65,535", balances.any(|index| index > 65_535));
+        let last = pack.balances.iter().any(|balance| balance.account as usize + 1 == keys.len());
+        self.note_if("balance index one below the number of keys", last);
+        self.note_if("256 keys and balance index 255 accepted", last && keys.len() == 256);
         let zero_mint = pack.balances.iter().any(|balance| balance.mint == [0; 32]);
         self.note_if("balance with a zero mint", zero_mint);
         let inner = pack.groups.iter().flat_map(|group| &group.instructions);
