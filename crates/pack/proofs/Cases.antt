@@ -40,13 +40,13 @@ abbrev pub group : ℕ → ℕ → List ℕ
 group index count = leBytes 4 index ++ leBytes 2 count
 
 -- a key of 32 bytes, a mint, and a balance row
-abbrev pub oneKey : List ℕ
+abbrev oneKey : List ℕ
 oneKey = 1 ∷ zeros 32
 
 abbrev oneMint : List ℕ
 oneMint = 9 ∷ zeros 31
 
-abbrev pub balance : ℕ → List ℕ → List ℕ
+abbrev balance : ℕ → List ℕ → List ℕ
 balance index mint = leBytes 4 index ++ mint
 
 -- a pack, and the number and place of its refusal

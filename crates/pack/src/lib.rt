@@ -1,7 +1,7 @@
 // The pack: its trailer, its five sections, the refusals that its bytes can meet, and the invocations that they flatten to.
 //
-// Total over all bytes. `flatten` answers which of the refusals 2, 3, 4, 5, 11 and 6 a pack meets, and says where each invocation's instruction stands and where it was
-// run, `section` shows a part of the pack, and `program`, `accounts` and `data` read an instruction back from its offset.
+// Total over all bytes. `flatten` answers which of the refusals 2, 3, 4, 5, 11 and 6 a pack meets, and says where each invocation's instruction stands and
+// where it was run, `section` shows a part of the pack, and `program`, `accounts` and `data` read an instruction back from its offset.
 ghost use mathlib.Core.Path.{_≡_};
 ghost use Prim.Native.Nat.{_+_, _<_, _≤_};
 ghost use lib.ListN.{length, getD};

@@ -48,6 +48,11 @@ pub numbered : {n : ℕ} → List·Memᴰ n refusalNumbers → n ≢ 0
 unfolding refusalTable
 numbered m = not-0 refusalNumbers refl m
 
+-- each of a list's refusals is met at a place of its own
+data InPlaces (names p : List ℕ) (l : Lent) : List Refusal → Type 0 where
+  done : InPlaces names p l []
+  also : {x : Refusal} {xs : List Refusal} → ((k : ℕ) → x .met names p l ≡ some k → List·Memᴰ k (x .places)) → InPlaces names p l xs → InPlaces names p l (x ∷ xs)
+
 -- a single place, and the first of five
 one-place : (k : ℕ) (b : Bool) {j : ℕ} → cond b (some k) none ≡ some j → List·Memᴰ j (k ∷ [])
 one-place k true e = List·Memᴰ·head (sym (Option·some-injective _ _ e))
@@ -116,11 +121,6 @@ module _ (names p : List ℕ) (l : Lent) where
           let y = later z in
           record { refusal = y .refusal; listed = List·Memᴰ·tail (y .listed); is = y .is; met = y .met }
 
-  -- each of a list's refusals is met at a place of its own
-  abbrev InPlaces : List Refusal → Type 0
-  InPlaces [] = Unit {0}
-  InPlaces (x ∷ xs) = ((k : ℕ) → x .met names p l ≡ some k → List·Memᴰ k (x .places)) × InPlaces xs
-
   crowded-place : (o : Option Tables) {k : ℕ} → crowds l o ≡ some k → List·Memᴰ k (0 ∷ 1 ∷ 2 ∷ 3 ∷ 4 ∷ [])
   unfolding crowds
   crowded-place none e = absurd (Option·none-ne-some _ e)
@@ -134,44 +134,27 @@ module _ (names p : List ℕ) (l : Lent) where
       (ltb (l .natives / actionWidth) (a .natives))
       e
 
-  in-places : InPlaces refusalTable
+  in-places : InPlaces names p l refusalTable
   unfolding refusalTable broken
-  in-places = (
-    λ k e. one-place 0 (not (eqb (length names) 88)) e,
-    (
-      λ k e. one-place 0 (not (marked p)) e,
-      (
-        λ k e. one-place 0 (not (ordered p)) e,
-        (
-          λ k e. five-places (not (keysFill (sectionOf p 0))) (not (rowsFill 36 (sectionOf p 1))) (not (outersWhole (sectionOf p 2))) (not (groupsWhole (sectionOf p 3))) (not (rowsFill 32 (sectionOf p 4))) e,
-          (
-            λ k e. one-place 0 (ltb 256 (length (viewOf p .keys))) e,
-            (
-              λ k e. one-place 1 (not (balancesNamed (length (viewOf p .keys)) (viewOf p .balances))) e,
-              (
-                λ k e. one-place 0 (ltb 1024 (length (flatten (viewOf p)))) e,
-                (
-                  λ k e. one-place 0 (unfinished (tablesIn names p)) e,
-                  (
-                    λ k e. crowded-place (tablesIn names p) e,
-                    tt,
-                  ),
-                ),
-              ),
-            ),
-          ),
-        ),
-      ),
-    ),
-  )
+  in-places =
+      also (λ k e. one-place 0 (not (eqb (length names) 88)) e)
+      (also (λ k e. one-place 0 (not (marked p)) e)
+      (also (λ k e. one-place 0 (not (ordered p)) e)
+      (also (λ k e. five-places (not (keysFill (sectionOf p 0))) (not (rowsFill 36 (sectionOf p 1))) (not (outersWhole (sectionOf p 2))) (not (groupsWhole (sectionOf p 3))) (not (rowsFill 32 (sectionOf p 4))) e)
+      (also (λ k e. one-place 0 (ltb 256 (length (viewOf p .keys))) e)
+      (also (λ k e. one-place 1 (not (balancesNamed (length (viewOf p .keys)) (viewOf p .balances))) e)
+      (also (λ k e. one-place 0 (ltb 1024 (length (flatten (viewOf p)))) e)
+      (also (λ k e. one-place 0 (unfinished (tablesIn names p)) e)
+      (also (λ k e. crowded-place (tablesIn names p) e)
+      done))))))))
 
-  places-of : (xs : List Refusal) → InPlaces xs → {x : Refusal} {k : ℕ} → List·Memᴰ x xs → x .met names p l ≡ some k → List·Memᴰ k (x .places)
-  places-of (y ∷ xs) h (List·Memᴰ·head q) e = rw q (h .0 _ (rw q at e))
-  places-of (y ∷ xs) h (List·Memᴰ·tail m) e = places-of xs (h .1) m e
+  places-of : {xs : List Refusal} {x : Refusal} {k : ℕ} → InPlaces names p l xs → List·Memᴰ x xs → x .met names p l ≡ some k → List·Memᴰ k (x .places)
+  places-of (also h r) (List·Memᴰ·head q) e = rw q (h _ (rw q at e))
+  places-of (also h r) (List·Memᴰ·tail m) e = places-of r m e
 
   -- what is refused is refused with a number of the table, and at a place that this number has there
   pub given-listed : route names p l .answer .number ≢ 0 → Listed (route names p l .answer .number) (route names p l .answer .place)
   given-listed z =
       let y = found refusalTable (λ w. z (ap (λ (t : ℕ × ℕ). t .0) first-given ∙ w)) in
       subst (λ (t : ℕ × ℕ). Listed (t .0) (t .1)) (sym first-given)
-      (record { refusal = y .refusal; listed = y .listed; is = y .is; own = places-of refusalTable in-places (y .listed) (y .met) })
+      (record { refusal = y .refusal; listed = y .listed; is = y .is; own = places-of in-places (y .listed) (y .met) })

@@ -14,7 +14,7 @@ use Rattle.pack.specs.Flatten.{flatten}
 use Rattle.route.specs.Tables.{Tables}
 use Rattle.route.specs.Route.{Lent, accepted, tooSmall, tablesIn}
 
--- a refusal: its number, the places that it can have, and at which of them names, pack and lent tables meet it, if they do; whether they meet another is not asked
+-- a refusal: its number, the places that it can have, and at which of them names, pack and lent tables meet it, if they do, whatever else they meet
 pub record Refusal : Type 0 where
   pub number : ℕ
   pub places : List ℕ
