@@ -45,25 +45,16 @@ below false x y h e = (refl, e)
 pub passed : (p : List ℕ) → refusalNumber (verdict p) ≡ 0 → Passed p
 unfolding verdict
 passed p e₀ =
-    let a₁₀ = cond (ltb 1024 (length (flatten (viewOf p)))) Invocations Good in
-    let a₉ = cond (not (balancesNamed (length (viewOf p .keys)) (viewOf p .balances))) Balances a₁₀ in
-    let a₈ = cond (ltb 256 (length (viewOf p .keys))) Keys a₉ in
-    let a₇ = cond (not (rowsFill 32 (sectionOf p 4))) (Section 4) a₈ in
-    let a₆ = cond (not (groupsWhole (sectionOf p 3))) (Section 3) a₇ in
-    let a₅ = cond (not (outersWhole (sectionOf p 2))) (Section 2) a₆ in
-    let a₄ = cond (not (rowsFill 36 (sectionOf p 1))) (Section 1) a₅ in
-    let a₃ = cond (not (keysFill (sectionOf p 0))) (Section 0) a₄ in
-    let a₂ = cond (not (ordered p)) Starts a₃ in
-    let e₁ = past (marked p) Mark a₂ (omega arith) e₀ in
-    let e₂ = past (ordered p) Starts a₃ (omega arith) (e₁ .1) in
-    let e₃ = past (keysFill (sectionOf p 0)) (Section 0) a₄ (omega arith) (e₂ .1) in
-    let e₄ = past (rowsFill 36 (sectionOf p 1)) (Section 1) a₅ (omega arith) (e₃ .1) in
-    let e₅ = past (outersWhole (sectionOf p 2)) (Section 2) a₆ (omega arith) (e₄ .1) in
-    let e₆ = past (groupsWhole (sectionOf p 3)) (Section 3) a₇ (omega arith) (e₅ .1) in
-    let e₇ = past (rowsFill 32 (sectionOf p 4)) (Section 4) a₈ (omega arith) (e₆ .1) in
-    let e₈ = below (ltb 256 (length (viewOf p .keys))) Keys a₉ (omega arith) (e₇ .1) in
-    let e₉ = past (balancesNamed (length (viewOf p .keys)) (viewOf p .balances)) Balances a₁₀ (omega arith) (e₈ .1) in
-    let e₁₀ = below (ltb 1024 (length (flatten (viewOf p)))) Invocations Good (omega arith) (e₉ .1) in
+    let e₁ = past (marked p) Mark _ (omega arith) e₀ in
+    let e₂ = past (ordered p) Starts _ (omega arith) (e₁ .1) in
+    let e₃ = past (keysFill (sectionOf p 0)) (Section 0) _ (omega arith) (e₂ .1) in
+    let e₄ = past (rowsFill 36 (sectionOf p 1)) (Section 1) _ (omega arith) (e₃ .1) in
+    let e₅ = past (outersWhole (sectionOf p 2)) (Section 2) _ (omega arith) (e₄ .1) in
+    let e₆ = past (groupsWhole (sectionOf p 3)) (Section 3) _ (omega arith) (e₅ .1) in
+    let e₇ = past (rowsFill 32 (sectionOf p 4)) (Section 4) _ (omega arith) (e₆ .1) in
+    let e₈ = below (ltb 256 (length (viewOf p .keys))) Keys _ (omega arith) (e₇ .1) in
+    let e₉ = past (balancesNamed (length (viewOf p .keys)) (viewOf p .balances)) Balances _ (omega arith) (e₈ .1) in
+    let e₁₀ = below (ltb 1024 (length (flatten (viewOf p)))) Invocations _ (omega arith) (e₉ .1) in
     record {
       size = e₁ .0;
       starts = e₂ .0;

@@ -1,4 +1,5 @@
--- Each return is the verdict under the checks that were passed before it; these are collected in the order of the code.
+-- Each return is the verdict under the checks that were passed before it; these are collected in the order of the code. Where the sections are whole, the
+-- verdict is known by counts and balances.
 -- Assumes nothing.
 use Rattle.pack.specs.Sections.{marked, ordered, sectionOf}
 use Rattle.pack.specs.Items.{keysFill, rowsFill, outersWhole, groupsWhole}
@@ -6,13 +7,14 @@ use Rattle.pack.specs.View.{balancesNamed, outerIn, groupsIn, viewOf}
 use Rattle.pack.specs.Flatten.{keptIn, flatten}
 use Rattle.pack.specs.Verdict.{verdict}
 use Rattle.pack.proofs.Sizes.{key-rows, keys-length, invocations-length, count-broken, count-of}
-use Prim.Native.Nat.{ℕ, _%_}
+use Rattle.pack.proofs.Limits.{Whole, more-keys, unnamed, most, more-invocations}
+use Prim.Native.Nat.{ℕ, _+_, _%_, _≤_}
 use mathlib.Core.Path.{_≡_, sym, ap, _∙_}
 use mathlib.Core.Bool.{true, false}
 use mathlib.Core.List.{List}
-use borrow.Author.Tests.{not-true, not-false, eq-eqb, ne-eqb, lt-ltb, le-ltb}
+use borrow.Author.Tests.{not-true, not-false, eq-eqb, ne-eqb}
 use native.Mathlib.Omega.{arith}
-use lib.Dec.{eqb, ltb}
+use lib.Dec.{eqb}
 use lib.ListN.{length}
 use borrow.Author.Needs.{needs}
 use Rattle.pack.proofs.judge.Statement.{statement}
@@ -96,10 +98,17 @@ pools-yes c = rw (← c .before .section5 .ensures) (eq-eqb _ _ (c .if5 .left))
 keys-at : (c : tie.After-section5) → length (section-at (section2-at (section3-at (section4-at c))) .section .result .now) ≡ length (sectionOf (pack-5 c) 0)
 keys-at c = ap length (section-at (section2-at (section3-at (section4-at c))) .section .ensures)
 
-few-keys : (c : tie.Else6) → ltb 256 (length (viewOf (pack-5 (c .before .before)) .keys)) ≡ false
+-- behind the sections counts and balances decide
+whole : (c : tie.Else5) → Whole (pack-5 (c .before))
+whole c =
+    let d = c .before in
+    let w = early (section3-at (section4-at d)) in
+    record { mark = w .0; starts = w .1; keys = w .2; balances = w .3; outers = outers-yes (section4-at d) .0; groups = groups-yes d .0; pools = pools-yes c }
+
+few-keys : (c : tie.Else6) → length (viewOf (pack-5 (c .before .before)) .keys) ≤ 256
 few-keys c =
-    let p = pack-5 (c .before .before) in
-    le-ltb 256 (length (viewOf p .keys)) (omega (arith, keys-length p, keys-at (c .before .before), c .if6 .left))
+    let d = c .before .before in
+    omega (arith, keys-length (pack-5 d), keys-at d, c .if6 .left)
 
 -- what the walk over the balances was asked, and answered
 named-is : (c : tie.After-balances)
@@ -115,6 +124,10 @@ named-yes : (c : tie.Else7)
     → let p = pack-5 (c .before .before .before .before) in
     balancesNamed (length (viewOf p .keys)) (viewOf p .balances) ≡ true
 named-yes c = sym (named-is (c .before)) ∙ not-false _ (c .if7 .left)
+
+-- how many invocations there are, by the counts of outers and inners
+counted : (c : tie.After-section5) → length (flatten (viewOf (pack-5 c))) ≡ section4-at c .before .before .outers2 .given .0 .0 + c .before .before .inners .given .0 .0
+counted c = omega (arith, invocations-length (pack-5 c), outers-yes (section4-at c) .1, groups-yes c .1)
 
 marked-requires : tie.Need-marked-requires
 marked-requires c κs = search needs
@@ -210,64 +223,36 @@ returns-7 c =
     rw (w .0, w .1, w .2, w .3, outers-yes (section4-at d) .0, groups-yes d .0, e)
 
 returns-8 : tie.Need-returns-8
-unfolding verdict
 returns-8 c =
-    let d = c .before .before in
-    let w = early (section3-at (section4-at d)) in
-    let p = pack-5 d in
-    let many = lt-ltb 256 (length (viewOf p .keys)) (omega (arith, keys-length p, keys-at d, c .if6 .taken)) in
-    rw (w .0, w .1, w .2, w .3, outers-yes (section4-at d) .0, groups-yes d .0, pools-yes (c .before), many)
+    let k = c .before in
+    let d = k .before in
+    sym (more-keys (pack-5 d) (whole k) (omega (arith, keys-length (pack-5 d), keys-at d, c .if6 .taken)))
 
 balances-requires : tie.Need-balances-requires
 balances-requires c κs = search needs
 
 returns-9 : tie.Need-returns-9
-unfolding verdict
 returns-9 c =
     let k = c .before .before in
-    let d = k .before .before in
-    let w = early (section3-at (section4-at d)) in
-    let e = sym (named-is (c .before)) ∙ not-true _ (c .if7 .taken) in
-    rw (w .0, w .1, w .2, w .3, outers-yes (section4-at d) .0, groups-yes d .0, pools-yes (k .before), few-keys k, e)
+    sym (unnamed (pack-5 (k .before .before)) (whole (k .before)) (few-keys k) (sym (named-is (c .before)) ∙ not-true _ (c .if7 .taken)))
 
 returns-10 : tie.Need-returns-10
-unfolding verdict
 returns-10 c =
     let n = c .before in
     let k = n .before .before in
-    let d = k .before .before in
-    let w = early (section3-at (section4-at d)) in
-    let o = outers-yes (section4-at d) in
-    let i = groups-yes d in
-    let p = pack-5 d in
-    let t = lt-ltb 1024 (length (flatten (viewOf p))) (omega (arith, invocations-length p, o .1, i .1)) in
-    rw (w .0, w .1, w .2, w .3, o .0, i .0, pools-yes (k .before), few-keys k, named-yes n, t)
+    sym (more-invocations (pack-5 (k .before .before)) (whole (k .before)) (few-keys k) (named-yes n) (omega (arith, counted (k .before .before))))
 
 returns-11 : tie.Need-returns-11
-unfolding verdict
 returns-11 c =
     let n = c .before .before in
     let k = n .before .before in
-    let d = k .before .before in
-    let w = early (section3-at (section4-at d)) in
-    let o = outers-yes (section4-at d) in
-    let i = groups-yes d in
-    let p = pack-5 d in
-    let t = lt-ltb 1024 (length (flatten (viewOf p))) (omega (arith, invocations-length p, o .1, i .1)) in
-    rw (w .0, w .1, w .2, w .3, o .0, i .0, pools-yes (k .before), few-keys k, named-yes n, t)
+    sym (more-invocations (pack-5 (k .before .before)) (whole (k .before)) (few-keys k) (named-yes n) (omega (arith, counted (k .before .before))))
 
 returns-12 : tie.Need-returns-12
-unfolding verdict
 returns-12 c =
     let n = c .before .before in
     let k = n .before .before in
-    let d = k .before .before in
-    let w = early (section3-at (section4-at d)) in
-    let o = outers-yes (section4-at d) in
-    let i = groups-yes d in
-    let p = pack-5 d in
-    let t = le-ltb 1024 (length (flatten (viewOf p))) (omega (arith, invocations-length p, o .1, i .1)) in
-    rw (w .0, w .1, w .2, w .3, o .0, i .0, pools-yes (k .before), few-keys k, named-yes n, t)
+    sym (most (pack-5 (k .before .before)) (whole (k .before)) (few-keys k) (named-yes n) (omega (arith, counted (k .before .before))))
 
 pub judge-spec : {M : Type 1} → statement M
 judge-spec =
