@@ -6,7 +6,8 @@ use mathlib.Core.Bool.{Bool, true, false, cond, not, _&&_}
 use mathlib.Core.List.{List, [], _∷_, List·Memᴰ, List·Memᴰ·head, List·Memᴰ·tail}
 use mathlib.Core.Option.{Option, none, some, Option·none-ne-some, Option·some-injective}
 use Prim.Native.Nat.{ℕ, _/_}
-use borrow.Author.Tests.{eqb-false, not-true}
+use borrow.Author.Tests.{eqb-false, ne-eqb, not-true}
+use native.Mathlib.Omega.{arith}
 use lib.Dec.{ltb, eqb}
 use lib.ListN.{length}
 use Rattle.wire.proofs.Below.{and-left, and-right}
@@ -68,6 +69,7 @@ five-places false false false false true q = List·Memᴰ·tail (List·Memᴰ·t
 five-places false false false false false q = absurd (Option·none-ne-some _ q)
 
 module _ (names p : List ℕ) (l : Lent) where
+  -- what passes and room decide
   room-given : (t : Tables) (o : Option ℕ) → told (byRoom (accepted t l) (λ k. refused 8 k l) o .answer) ≡ metElse 8 o (0, 0)
   unfolding accepted refused
   room-given t none = refl
@@ -78,28 +80,50 @@ module _ (names p : List ℕ) (l : Lent) where
   tables-given none = refl
   tables-given (some t) = room-given t (tooSmall l (t .room) (accepted t l .answer))
 
+  -- number and place that are given for a verdict on the pack
+  record Given (v : Verdict) (t : ℕ × ℕ) : Type 0 where
+    is : told (judged names p l v .answer) ≡ t
+
+  good-given : Given Good (metElse 7 (cond (unfinished (tablesIn names p)) (some 0) none) (metElse 8 (crowds l (tablesIn names p)) (0, 0)))
+  unfolding judged
+  good-given = record { is = tables-given (tablesIn names p) }
+
+  -- a test that is met, or what comes after it
+  test-given : (b : Bool) (x : Verdict) {y : Verdict} {t : ℕ × ℕ} → refusalNumber x ≢ 0 → Given y t
+      → Given (cond b x y) (metElse (refusalNumber x) (cond b (some (placeOf x)) none) t)
+  unfolding judged refused
+  test-given true x h g = record { is = rw (ne-eqb (refusalNumber x) 0 h) }
+  test-given false x h g = g
+
+  -- the lowest section that is broken
+  sections-given : (a b c d e : Bool) {y : Verdict} {t : ℕ × ℕ} → Given y t
+      → Given (cond a (Section 0) (cond b (Section 1) (cond c (Section 2) (cond d (Section 3) (cond e (Section 4) y)))))
+      (metElse 4 (cond a (some 0) (cond b (some 1) (cond c (some 2) (cond d (some 3) (cond e (some 4) none))))) t)
+  unfolding judged refused
+  sections-given true b c d e g = record { is = refl }
+  sections-given false true c d e g = record { is = refl }
+  sections-given false false true d e g = record { is = refl }
+  sections-given false false false true e g = record { is = refl }
+  sections-given false false false false true g = record { is = refl }
+  sections-given false false false false false g = g
+
+  names-given : (b : Bool) {v : Verdict} {t : ℕ × ℕ} → Given v t → told (cond b (judged names p l v) (refused 1 0 l) .answer) ≡ metElse 1 (cond (not b) (some 0) none) t
+  unfolding refused
+  names-given true g = g .is
+  names-given false g = refl
+
   -- of the refusals that are met the first one of the table is given
   pub first-given : told (route names p l .answer) ≡ firstMet refusalTable names p l
-  unfolding route judged verdict refused broken refusalTable firstMet
+  unfolding route verdict broken refusalTable firstMet
   first-given =
-      go (eqb (length names) 88) (marked p) (ordered p) (keysFill (sectionOf p 0)) (rowsFill 36 (sectionOf p 1)) (outersWhole (sectionOf p 2)) (groupsWhole (sectionOf p 3)) (rowsFill 32 (sectionOf p 4)) (ltb 256 (length (viewOf p .keys))) (balancesNamed (length (viewOf p .keys)) (viewOf p .balances)) (ltb 1024 (length (flatten (viewOf p))))
-    where
-      go : (a b c s₀ s₁ s₂ s₃ s₄ d e f : Bool)
-          → let v = cond (not b) Mark (cond (not c) Starts (cond (not s₀) (Section 0) (cond (not s₁) (Section 1) (cond (not s₂) (Section 2) (cond (not s₃) (Section 3) (cond (not s₄) (Section 4) (cond d Keys (cond (not e) Balances (cond f Invocations Good))))))))) in
-          told (cond a (cond (eqb (refusalNumber v) 0) (passed (tablesIn names p) l) (refused (refusalNumber v) (placeOf v) l)) (refused 1 0 l) .answer)
-          ≡ metElse 1 (cond (not a) (some 0) none) (metElse 2 (cond (not b) (some 0) none) (metElse 3 (cond (not c) (some 0) none) (metElse 4 (cond (not s₀) (some 0) (cond (not s₁) (some 1) (cond (not s₂) (some 2) (cond (not s₃) (some 3) (cond (not s₄) (some 4) none))))) (metElse 5 (cond d (some 0) none) (metElse 11 (cond (not e) (some 1) none) (metElse 6 (cond f (some 0) none) (metElse 7 (cond (unfinished (tablesIn names p)) (some 0) none) (metElse 8 (crowds l (tablesIn names p)) (0, 0)))))))))
-      go false b c s₀ s₁ s₂ s₃ s₄ d e f = refl
-      go true false c s₀ s₁ s₂ s₃ s₄ d e f = refl
-      go true true false s₀ s₁ s₂ s₃ s₄ d e f = refl
-      go true true true false s₁ s₂ s₃ s₄ d e f = refl
-      go true true true true false s₂ s₃ s₄ d e f = refl
-      go true true true true true false s₃ s₄ d e f = refl
-      go true true true true true true false s₄ d e f = refl
-      go true true true true true true true false d e f = refl
-      go true true true true true true true true true e f = refl
-      go true true true true true true true true false false f = refl
-      go true true true true true true true true false true true = refl
-      go true true true true true true true true false true false = tables-given (tablesIn names p)
+      names-given (eqb (length names) 88)
+      (test-given (not (marked p)) Mark (λ e. omega arith)
+      (test-given (not (ordered p)) Starts (λ e. omega arith)
+      (sections-given (not (keysFill (sectionOf p 0))) (not (rowsFill 36 (sectionOf p 1))) (not (outersWhole (sectionOf p 2))) (not (groupsWhole (sectionOf p 3))) (not (rowsFill 32 (sectionOf p 4)))
+      (test-given (ltb 256 (length (viewOf p .keys))) Keys (λ e. omega arith)
+      (test-given (not (balancesNamed (length (viewOf p .keys)) (viewOf p .balances))) Balances (λ e. omega arith)
+      (test-given (ltb 1024 (length (flatten (viewOf p)))) Invocations (λ e. omega arith)
+      good-given))))))
 
   -- a refusal of a list that is met
   record FirstOf (xs : List Refusal) (number place : ℕ) : Type 0 where
