@@ -4,8 +4,6 @@ ghost use mathlib.Core.Path.{_≡_};
 ghost use mathlib.Core.Bool.{_&&_};
 ghost use lib.Dec.{eqb};
 ghost use lib.Seq.{sets};
-ghost use Rattle.wire.specs.Le.{le};
-ghost use Rattle.wire.specs.Same.{same};
 ghost use Rattle.ids.specs.Keys.{keyOf};
 ghost use Rattle.ids.specs.Mints.{mintOf, mintField};
 ghost use Rattle.pack.specs.View.{poolsIn};
@@ -15,27 +13,15 @@ ghost use Rattle.swaps.specs.Row.{bit as bitOf, keyBytes, endBytes, legR
 // The bytes of a row.
 pub const WIDTH: usize = 250;
 
-// Whether a row is the key whose last eight bytes are `last`. Keys that are alike mostly differ there, so that one comparison settles most rows.
-fn is_key(row: &[u8], key: &[u8], last: u64) -> bool
-    requires { ⌜ last ≡ le 8 (now key) 24 ⌝ }
-    ensures { λ r. ⌜ r ≡ same (now (row .entry)) (now (key .entry)) ⌝ }
-{
-    if wire::u64_at(row, 24) != last {
-        return false;
-    }
-    wire::equal(row, key)
-}
-
 // Whether a run of 32-byte rows holds a key.
 fn holds(pools: &[u8], key: &[u8]) -> bool
     ensures { λ r. ⌜ r ≡ contains (poolsIn (now (pools .entry))) (now (key .entry)) ⌝ }
 {
-    let last = wire::u64_at(key, 24);
     let rows = pools.len() / 32;
     let mut i = 0;
     while i < rows {
         let at = i * 32;
-        if is_key(&pools[at..at + 32], key, last) {
+        if wire::equal(&pools[at..at + 32], key) {
             return true;
         }
         i += 1;
