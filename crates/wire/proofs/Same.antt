@@ -1,14 +1,15 @@
 -- The laws by which proofs use the test of two runs: it is true exactly of equal ones, so a byte that differs decides it.
 -- Assumes nothing.
-use mathlib.Core.Path.{_≡_, refl, sym, ap, ap₂, subst, _∙_}
+use native.Mathlib.Omega.{arith}
+use mathlib.Core.Path.{_≡_, refl, sym, ap, ap₂, subst}
 use mathlib.Core.Logic.{_≢_}
-use mathlib.Core.Bool.{Bool, true, false}
+use mathlib.Core.Bool.{Bool, true, false, _&&_}
 use mathlib.Core.List.{List, [], _∷_, _++_}
 use Prim.Native.Nat.{ℕ, _+_}
 use borrow.Author.Tests.{eq-eqb, eqb-true}
 use lib.Dec.{eqb}
-use lib.ListN.{length, getD, take, drop, take-append-drop}
-use lib.Seq.{drop-drop}
+use lib.ListN.{length, getD, take, drop, length-append}
+use lib.Seq.{take-add}
 use Rattle.wire.proofs.Below.{and-left, and-right}
 use Rattle.wire.specs.Same.{same}
 
@@ -45,15 +46,14 @@ same-not-at a b j h = same-ne (λ e. h (ap (λ (l : List ℕ). getD l j 0) e))
 pub same-not-long : (a b : List ℕ) → (length a ≡ length b → ⊥) → same a b ≡ false
 same-not-long a b h = same-ne (λ e. h (ap length e))
 
--- a common beginning does not count
-same-behind : (p a b : List ℕ) → same (p ++ a) (p ++ b) ≡ same a b
+-- a common end does not count
+same-before : (a b s : List ℕ) → same (a ++ s) (b ++ s) ≡ same a b
 unfolding same
-same-behind [] a b = refl
-same-behind (x ∷ p) a b = rw (eq-eqb x x refl) (same-behind p a b)
+same-before [] [] s = same-refl s
+same-before [] (y ∷ b) s = same-not-long s (y ∷ b ++ s) (λ e. omega (arith, e, length-append b s))
+same-before (x ∷ a) [] s = same-not-long (x ∷ a ++ s) s (λ e. omega (arith, e, length-append a s))
+same-before (x ∷ a) (y ∷ b) s = ap (λ (t : Bool). eqb x y && t) (same-before a b s)
 
--- runs whose next n bytes are equal
-pub same-step : (a b : List ℕ) (i n : ℕ) → take n (drop i a) ≡ take n (drop i b) → same (drop (i + n) a) (drop (i + n) b) ≡ same (drop i a) (drop i b)
-same-step a b i n e =
-    rw (← drop-drop n i a, ← drop-drop n i b)
-    (sym (same-behind (take n (drop i a)) (drop n (drop i a)) (drop n (drop i b)))
-    ∙ ap₂ same (take-append-drop n (drop i a)) (ap (λ (p : List ℕ). p ++ drop n (drop i b)) e ∙ take-append-drop n (drop i b)))
+-- runs whose n bytes from i on are equal
+pub same-step : (a b : List ℕ) (i n : ℕ) → take n (drop i a) ≡ take n (drop i b) → same (take i a) (take i b) ≡ same (take (i + n) a) (take (i + n) b)
+same-step a b i n e = rw (take-add i n a, take-add i n b, e) (sym (same-before (take i a) (take i b) (take n (drop i b))))

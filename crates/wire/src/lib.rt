@@ -5,7 +5,7 @@
 // the compiler turns into one load or store; runs are copied and compared eight bytes at a time, and what is left byte by byte.
 ghost use mathlib.Core.Path.{_≡_};
 ghost use Prim.Native.Nat.{_+_, _<_, _≤_};
-ghost use lib.ListN.{length, getD, set, drop};
+ghost use lib.ListN.{length, getD, set, take, drop};
 ghost use lib.Seq.{sets};
 ghost use Rattle.wire.specs.Le.{le, leBytes, swapped, Bytes};
 ghost use Rattle.wire.specs.Same.{same};
@@ -212,34 +212,34 @@ pub fn clear(d: &mut [u8])
     }
 }
 
-// Whether two runs of one length are the same from place `from` on.
-fn equal_rest(a: &[u8], b: &[u8], from: usize) -> bool
-    requires { ⌜ length (now a) ≡ length (now b) ⌝ }
-    ensures { λ r. ⌜ r ≡ same (drop from (now (a .entry))) (drop from (now (b .entry))) ⌝ }
+// Whether the first n bytes of two runs are the same.
+fn equal_rest(a: &[u8], b: &[u8], n: usize) -> bool
+    requires { ⌜ (n ≤ length (now a)) × (n ≤ length (now b)) ⌝ }
+    ensures { λ r. ⌜ r ≡ same (take n (now (a .entry))) (take n (now (b .entry))) ⌝ }
 {
-    let mut i = from;
-    while i < a.len() {
+    let mut i = n;
+    while 0 < i {
+        i -= 1;
         if a[i] != b[i] {
             return false;
         }
-        i += 1;
     }
     true
 }
 
-// Whether two runs are the same.
+// Whether two runs are the same. The last bytes are compared first, since many keys share their opening ones.
 pub fn equal(a: &[u8], b: &[u8]) -> bool
     ensures { λ r. ⌜ r ≡ same (now (a .entry)) (now (b .entry)) ⌝ }
 {
     if a.len() != b.len() {
         return false;
     }
-    let mut i = 0;
-    while 8 <= a.len() - i {
+    let mut i = a.len();
+    while 8 <= i {
+        i -= 8;
         if eight(a, i) != eight(b, i) {
             return false;
         }
-        i += 8;
     }
     equal_rest(a, b, i)
 }

@@ -1,25 +1,28 @@
--- The bytes from `from` to i are equal in both, so what follows them decides.
+-- The bytes from i to n are equal in both, so those before them decide.
 -- Assumes nothing.
 use native.Mathlib.Omega.{arith}
 use mathlib.Core.Path.{_≡_, refl, sym, ap, _∙_}
 use mathlib.Core.Bool.{false}
 use mathlib.Core.List.{[], _∷_}
-use Prim.Native.Nat.{ℕ, suc, _-_}
-use lib.ListN.{length, getD, drop, drop-of-length-le}
-use lib.Seq.{drop-cons}
+use Prim.Native.Nat.{ℕ, _+_, _-_, _≤_}
+use lib.ListN.{take, drop}
+use lib.Seq.{drop-cons, getD-take}
 use Rattle.wire.specs.Same.{same}
 use Rattle.wire.proofs.Same.{same-eq, same-not-at, same-step}
 use Rattle.wire.proofs.equal_rest.Statement.{statement}
 use Rattle.wire.proofs.equal_rest.Tie as tie
 
 abbrev Inv-loop : tie.InvT-loop
-Inv-loop a b from i₀ i = same (drop i a) (drop i b) ≡ same (drop from a) (drop from b)
+Inv-loop a b n i₀ i = (i ≤ n) × (same (take i a) (take i b) ≡ same (take n a) (take n b))
 
 abbrev μ-loop : tie.MeasureT-loop
-μ-loop a b from i₀ i = length a - i
+μ-loop a b n i₀ i = i
 
 loop-holds : tie.Need-loop-holds Inv-loop μ-loop
-loop-holds c = refl
+loop-holds c = (omega arith, refl)
+
+sub-i : tie.Need-sub-i Inv-loop μ-loop
+sub-i c = omega arith
 
 shared-slice-read-if1 : tie.Need-shared-slice-read-if1 Inv-loop μ-loop
 shared-slice-read-if1 c = omega arith
@@ -32,11 +35,9 @@ returns c =
     let a = c .before .before .before .before .before .args .a .now in
     let b = c .before .before .before .before .before .args .b .now in
     let l = c .before .before .before .before .loop in
-    let differ : same (drop (l .i) a) (drop (l .i) b) ≡ false = rw (drop-cons a (l .i) 0 (omega arith), drop-cons b (l .i) 0 (omega arith)) (same-not-at (getD a (l .i) 0 ∷ drop (suc (l .i)) a) (getD b (l .i) 0 ∷ drop (suc (l .i)) b) 0 (c .if1 .taken)) in
-    sym differ ∙ l .inv
-
-add-i : tie.Need-add-i Inv-loop μ-loop
-add-i c = omega arith
+    let j = l .i - 1 in
+    let differ : same (take (l .i) a) (take (l .i) b) ≡ false = same-not-at (take (l .i) a) (take (l .i) b) j (λ e. c .if1 .taken (sym (getD-take (l .i) a j 0 (omega arith)) ∙ (e ∙ getD-take (l .i) b j 0 (omega arith)))) in
+    sym differ ∙ l .inv .1
 
 loop-less : tie.Need-loop-less Inv-loop μ-loop
 loop-less c = omega arith
@@ -46,14 +47,16 @@ loop-again c =
     let a = c .before .before .before .before .before .args .a .now in
     let b = c .before .before .before .before .before .args .b .now in
     let l = c .before .before .before .before .loop in
-    same-step a b (l .i) 1 (rw (drop-cons a (l .i) 0 (omega arith), drop-cons b (l .i) 0 (omega arith)) (ap (λ (x : ℕ). x ∷ []) (c .if1 .left))) ∙ l .inv
+    let j = l .i - 1 in
+    let next : take 1 (drop j a) ≡ take 1 (drop j b) = rw (drop-cons a j 0 (omega arith), drop-cons b j 0 (omega arith)) (ap (λ (x : ℕ). x ∷ []) (c .if1 .left)) in
+    let back : j + 1 ≡ l .i = omega arith in
+    (omega arith, same-step a b j 1 next ∙ rw back (l .inv .1))
 
 returns-2 : tie.Need-returns-2 Inv-loop μ-loop
 returns-2 c =
-    let a = c .before .before .args .a .now in
-    let b = c .before .before .args .b .now in
     let l = c .before .loop in
-    sym (same-eq (drop-of-length-le a {i = l .i} (omega arith) ∙ sym (drop-of-length-le b {i = l .i} (omega arith)))) ∙ l .inv
+    let none : l .i ≡ 0 = omega arith in
+    sym (same-eq (rw none refl)) ∙ l .inv .1
 
 pub equal-rest-spec : {M : Type 1} → statement M
 equal-rest-spec =
@@ -62,10 +65,10 @@ equal-rest-spec =
     Inv-loop
     μ-loop
     loop-holds
+    sub-i
     shared-slice-read-if1
     shared-slice-read-if1-2
     returns
-    add-i
     loop-less
     loop-again
     returns-2)
