@@ -14,7 +14,8 @@ ghost use Rattle.mints.specs.Bytes.{mintWidth};
 ghost use Rattle.mints.specs.Cells.{firstRow, LastBytesSeen};
 ghost use Rattle.mints.specs.Lay.{laid};
 
-// The first of the table's rows that holds the key, or `rows` where none does.
+// The first of the table's rows that holds the key, or `rows` where none does. Like `wire::equal` it compares the last bytes first; the scope names the form
+// of this search, so the comparison stands in it.
 fn find(table: &[u8], rows: usize, key: &[u8]) -> usize
     requires { ⌜ (length (now key) ≡ 32) × (rows * mintWidth ≤ length (now table)) ⌝ }
     ensures { λ r. ⌜ r ≡ firstRow (now (table .entry)) (now (key .entry)) rows ⌝ }
@@ -24,18 +25,13 @@ fn find(table: &[u8], rows: usize, key: &[u8]) -> usize
         if rows <= i {
             break 'rows rows;
         }
-        // Accounts made in a row often differ in few bytes; the last one tells most of them apart at once.
-        if table[i * WIDTH + 31] != key[31] {
-            i += 1;
-            continue 'rows;
-        }
-        let mut j = 0;
-        while j < 32 {
+        let mut j = 32;
+        while 0 < j {
+            j -= 1;
             if table[i * WIDTH + j] != key[j] {
                 i += 1;
                 continue 'rows;
             }
-            j += 1;
         }
         break 'rows i;
     };
