@@ -1,4 +1,5 @@
-//! The packs that are timed: typical ones, one at each limit that costs time, and some that grow.
+//! The packs that are timed: typical ones, one at each limit that costs time, some that grow, and some
+//! whose keys are alike but for one byte.
 
 use crate::generate::rng::Rng;
 use crate::sample;
@@ -12,7 +13,8 @@ pub struct Timed {
     pub pack: Pack,
 }
 
-/// Typical packs first, then the limits, then those that grow in invocations, keys and bytes.
+/// Typical packs first, then the limits, then those that grow in invocations, keys and bytes, then those
+/// whose keys are alike.
 pub fn packs() -> Vec<Timed> {
     let typical = [1, 2, 4].map(|trades| ("typical", sample::trades(trades)));
     let longer = [10, 30, 100].map(|trades| ("trades", sample::trades(trades)));
@@ -24,7 +26,7 @@ pub fn packs() -> Vec<Timed> {
         [16, 64, 256].map(|count| Timed { name: format!("keys-{count}"), pack: keys(count) });
     let long = [1_000, 10_000, 60_000]
         .map(|count| Timed { name: format!("bytes-{count}"), pack: bytes(count) });
-    traded.chain(limits()).chain(keyed).chain(long).collect()
+    traded.chain(limits()).chain(keyed).chain(long).chain(alike()).collect()
 }
 
 fn limits() -> impl Iterator<Item = Timed> {
@@ -37,11 +39,51 @@ fn limits() -> impl Iterator<Item = Timed> {
         ("transfers", full_table(&[0, 1, 0], SPL_TOKEN, &[3; 9])),
         ("legs", full_table(&[0; 8], AMM_V4, &[16; 17])),
         ("natives", full_table(&[0], SPL_TOKEN, &[17])),
-        ("pools", pools()),
+        ("pools", pools(LAST)),
         ("balances", balances()),
         ("largest", largest()),
     ];
     limits.into_iter().map(|(name, pack)| Timed { name: name.to_string(), pack })
+}
+
+fn alike() -> impl Iterator<Item = Timed> {
+    let named = |name: &str, place: usize, pack: Pack| Timed { name: format!("{name}-{place}"), pack };
+    let traded = [LAST, 0].map(|place| named("typical-alike", place, trades_alike(place)));
+    let crowded = [LAST, 30, 0].map(|place| named("keys-alike", place, keys_alike(place)));
+    let pooled = named("pools-alike", 0, pools(0));
+    traded.into_iter().chain(crowded).chain([pooled])
+}
+
+/// Four trades, as in the longest typical pack. All keys that are no ids differ in one byte only.
+fn trades_alike(place: usize) -> Pack {
+    let mut pack = sample::trades(4);
+    let ids = original::ids();
+    let before: Vec<Key> = pack.keys.iter().map(|row| row.key).collect();
+    let renamed = |key: Key| match before.iter().position(|known| *known == key) {
+        Some(k) if !ids.contains(&key) && key != [0; 32] => look_alike(k, place),
+        _ => key,
+    };
+    pack.keys.iter_mut().for_each(|row| row.key = renamed(row.key));
+    pack.balances.iter_mut().for_each(|balance| balance.mint = renamed(balance.mint));
+    pack.pools.iter_mut().for_each(|pool| *pool = renamed(*pool));
+    pack
+}
+
+/// As many keys as can be that differ in one byte only, SPL Token's id among them, and one transfer.
+fn keys_alike(place: usize) -> Pack {
+    let id = original::ids()[SPL_TOKEN];
+    let from = id[place].wrapping_add(1);
+    let transfer = Instruction {
+        program: id[place].into(),
+        accounts: vec![from, from.wrapping_add(1), from],
+        data: vec![3; 9],
+    };
+    Pack {
+        keys: (0..MAX_KEYS).map(|k| row(with_byte(id, place, k))).collect(),
+        balances: vec![Balance { account: from.into(), mint: [9; 32] }],
+        outer: vec![transfer],
+        ..Pack::default()
+    }
 }
 
 /// So many accounts with keys of random bytes, each with a balance.
@@ -78,7 +120,7 @@ fn doubt() -> Pack {
 /// 1,024 plain transfers along a line of so many keys: each two neighbours have four, which hand one
 /// mint along the line against its order; the rest come from another key to the second of the line.
 fn line(length: usize, other: usize) -> Pack {
-    let mut keys: Vec<KeyRow> = (1..MAX_KEYS).map(|k| row(look_alike(k))).collect();
+    let mut keys: Vec<KeyRow> = (1..MAX_KEYS).map(|k| row(look_alike(k, LAST))).collect();
     keys.push(row(original::ids()[SPL_TOKEN]));
     let transfer = |from: usize, to: usize| Instruction {
         program: MAX_KEYS as u32 - 1,
@@ -114,7 +156,7 @@ fn one_outer(height: impl Fn(usize) -> u32) -> Pack {
 /// As many invocations as can be, each with a row in the same table.
 fn full_table(accounts: &[u8], program: usize, data: &[u8]) -> Pack {
     let ids = original::ids();
-    let keys = [look_alike(1), look_alike(2), ids[program]];
+    let keys = [look_alike(1, LAST), look_alike(2, LAST), ids[program]];
     let instruction = Instruction { program: 2, accounts: accounts.to_vec(), data: data.to_vec() };
     Pack {
         keys: keys.map(row).to_vec(),
@@ -125,8 +167,8 @@ fn full_table(accounts: &[u8], program: usize, data: &[u8]) -> Pack {
 }
 
 /// As many comparisons with graduated pools as can be: half the bytes are legs of a pool that is none
-/// of them, half are pools that differ from it in the last byte only.
-fn pools() -> Pack {
+/// of them, half are pools that differ from it in one byte only.
+fn pools(place: usize) -> Pack {
     let keys = vec![row([7; 32]), row(original::ids()[CPMM])];
     let leg = Instruction {
         program: 1,
@@ -135,14 +177,14 @@ fn pools() -> Pack {
     };
     let half = MAX_BYTES / 2;
     let outer = vec![leg; half / 45];
-    // Of the keys that differ in the last byte only, number 7 is the pool itself.
-    let other = |k: usize| look_alike(8 + k % 248);
+    // Of the keys that differ in that byte only, number 7 is the pool itself.
+    let other = |k: usize| look_alike(8 + k % 248, place);
     filled(Pack { keys, outer, ..Pack::default() }, 32, |pack, k| pack.pools.push(other(k)))
 }
 
 /// As many keys as can be, and as many balances as fit.
 fn balances() -> Pack {
-    let keys = (0..MAX_KEYS).map(|k| row(look_alike(k))).collect();
+    let keys = (0..MAX_KEYS).map(|k| row(look_alike(k, LAST))).collect();
     filled(Pack { keys, ..Pack::default() }, 36, |pack, k| {
         pack.balances.push(Balance { account: (k % MAX_KEYS) as u32, mint: [9; 32] });
     })
@@ -150,7 +192,7 @@ fn balances() -> Pack {
 
 /// As many keys and invocations as can be, each with data as long as fits.
 fn largest() -> Pack {
-    let keys = (0..MAX_KEYS).map(|k| row(look_alike(k))).collect();
+    let keys = (0..MAX_KEYS).map(|k| row(look_alike(k, LAST))).collect();
     let pack =
         Pack { keys, outer: vec![Instruction::default(); MAX_INVOCATIONS], ..Pack::default() };
     filled(pack, 1, |pack, k| pack.outer[k % MAX_INVOCATIONS].data.push(k as u8))
@@ -167,9 +209,15 @@ fn row(key: Key) -> KeyRow {
     KeyRow { whole: true, key }
 }
 
-/// Keys that only their last byte tells apart.
-fn look_alike(k: usize) -> Key {
-    let mut key = [7; 32];
-    key[31] = k as u8;
+/// The place of a key's last byte.
+const LAST: usize = 31;
+
+/// Keys that only the byte at one place tells apart.
+fn look_alike(k: usize, place: usize) -> Key {
+    with_byte([7; 32], place, k)
+}
+
+fn with_byte(mut key: Key, place: usize, byte: usize) -> Key {
+    key[place] = byte as u8;
     key
 }
