@@ -47,6 +47,46 @@ fn a_plain_transfer_fills_in_a_mint() {
     assert_eq!((transfer.amount, transfer.fee, transfer.mint), (7, Some(0), mint));
 }
 
+/// The rows of the mint table where each of these accounts has a balance of its mint.
+fn recorded(balances: &[(Key, Key)]) -> Vec<(Key, Key)> {
+    let balance = |(account, &(_, mint))| Balance { account: account as u32, mint };
+    let pack = Pack {
+        keys: balances.iter().map(|&(key, _)| KeyRow { whole: true, key }).collect(),
+        balances: balances.iter().enumerate().map(balance).collect(),
+        ..Pack::default()
+    };
+    let mut tables = Tables::full();
+    route(&names(), &pack.write().unwrap(), &mut tables).unwrap();
+    tables.mints().map(|row| (row.account, row.mint)).collect()
+}
+
+/// A key of sevens but for some bytes.
+fn sevens_but(bytes: &[(usize, u8)]) -> Key {
+    let mut key = [7; 32];
+    bytes.iter().for_each(|&(place, byte)| key[place] = byte);
+    key
+}
+
+/// Two accounts have two rows, one account with two mints has none.
+#[test]
+fn any_one_byte_tells_two_keys_apart() {
+    for place in 0..32 {
+        let [low, high] = [1, 2].map(|byte| sevens_but(&[(place, byte)]));
+        assert_eq!(recorded(&[(high, low), (low, high)]), [(low, high), (high, low)], "{place}");
+        assert_eq!(recorded(&[(low, low), (low, high)]), [], "{place}");
+    }
+}
+
+#[test]
+fn accounts_ascend_from_the_first_byte_on() {
+    let mint = [9; 32];
+    for place in 1..32 {
+        let low = sevens_but(&[(0, 1), (place, 2)]);
+        let high = sevens_but(&[(0, 2), (place, 1)]);
+        assert_eq!(recorded(&[(high, mint), (low, mint)]), [(low, mint), (high, mint)], "{place}");
+    }
+}
+
 /// A and B record two mints; plain transfers lead from A over C and D to B.
 #[test]
 fn doubt_travels_the_whole_chain() {
