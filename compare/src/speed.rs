@@ -47,11 +47,10 @@ fn limits() -> impl Iterator<Item = Timed> {
 }
 
 fn alike() -> impl Iterator<Item = Timed> {
-    let named = |name: &str, place: usize, pack: Pack| Timed { name: format!("{name}-{place}"), pack };
-    let traded = [LAST, 0].map(|place| named("typical-alike", place, trades_alike(place)));
-    let crowded = [LAST, 30, 0].map(|place| named("keys-alike", place, keys_alike(place)));
-    let pooled = named("pools-alike", 0, pools(0));
-    traded.into_iter().chain(crowded).chain([pooled])
+    let traded = [LAST, 0].map(|place| ("typical", place, trades_alike(place)));
+    let crowded = [LAST, 30, 0].map(|place| ("keys", place, keys_alike(place)));
+    let alike = traded.into_iter().chain(crowded).chain([("pools", 0, pools(0))]);
+    alike.map(|(kind, place, pack)| Timed { name: format!("{kind}-alike-{place}"), pack })
 }
 
 /// Four trades, as in the longest typical pack. All keys that are no ids differ in one byte only.
