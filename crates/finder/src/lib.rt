@@ -2,6 +2,8 @@
 //
 // `subtrees` finds the same for all invocations at once, by passing over blocks that it knows. Here nothing is known beforehand. docs/TREE.md reads it line by
 // line. The four arrays that each function is lent tell of n invocations where each was run, and what it has itself.
+#![tactic(auto)]
+
 ghost use Rattle.std.specs.Prelude.{◌≡◌, ◌+◌, ◌≤◌, ◌<◌, length};
 ghost use Rattle.pack.specs.Invocation.{position_at};
 ghost use Rattle.subtrees.specs.Descendant.{descendant};
@@ -10,7 +12,7 @@ ghost use Rattle.finder.specs.Children.{children_of};
 ghost use Rattle.finder.specs.Found.{FoundFrom, FoundBlock};
 
 // Where a block ends, what lies inside it (1 a transfer, 2 a swap), and how many members were visited.
-#[derive(Drop)]
+#[derive(Clone, Copy)]
 pub struct Found {
     pub end: u32,
     pub inside: u8,

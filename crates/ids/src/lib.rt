@@ -2,6 +2,8 @@
 //
 // The fourteen ids of the original stand in one table, whose rule (no two rows share their fifth byte, none has a zero there) is computed once. A missing key
 // is the stand-in handed in beside the keys, and a program is resolved only in range with flag 1.
+#![tactic(auto)]
+
 ghost use Rattle.std.specs.Prelude.{◌≡◌, ◌<◌};
 ghost use Rattle.std.proofs.lemmas.List.Edits.{sets};
 ghost use Rattle.wire.specs.Same.{same};
@@ -29,7 +31,7 @@ const IDS: [u8; 448] = *b"\
     \x04\xe9\xe1\x2f\xbc\x84\xe8\x26\xc9\x32\xcc\xe9\xe2\x64\x0c\xce\x15\x59\x0c\x1c\x62\x73\xb0\x92\x57\x08\xba\x3b\x85\x20\xb0\xbc";
 
 // Which program a key is: a row of the table, the System program (a resolved zero key), any other, or a program that is not resolved.
-#[derive(Drop)]
+#[derive(Clone, Copy)]
 pub enum Id {
     SplToken,
     Token2022,

@@ -2,6 +2,8 @@
 //
 // Proved: which bytes they are, how many, and that 65,536 hold every listing. `print` reads the input and writes them out; that is tested, since no contract
 // can speak of what is read or written.
+#![tactic(auto)]
+
 pub mod tree;
 
 ghost use Rattle.std.specs.Prelude.{◌≡◌, ◌+◌, ◌*◌, ◌≤◌, length, take, drop};

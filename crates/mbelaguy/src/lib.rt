@@ -1,4 +1,6 @@
 // The library for programs in other languages: a thin skin over `route` and `month`.
+#![tactic(auto)]
+
 ghost use Rattle.std.specs.Prelude.{◌≡◌};
 ghost use Rattle.month.specs.Call.{Feeds};
 ghost use Rattle.route.specs.Enough.{needed};

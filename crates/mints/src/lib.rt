@@ -2,6 +2,8 @@
 //
 // `infer` answers how many rows table 0 needs and has, and after how many passes; it leaves these rows, ascending by account, and the final mint of each
 // key index, and the number of each invocation's program. Each key is searched once, in a linear table; evidence, passes, marks and lookups go by row numbers.
+#![tactic(auto)]
+
 ghost use Rattle.std.specs.Prelude.{◌≡◌, ◌*◌, ◌≤◌, length, take};
 ghost use Rattle.std.proofs.lemmas.List.Edits.{sets};
 ghost use Rattle.wire.specs.Zeros.{zeros};
@@ -22,14 +24,14 @@ mod table;
 pub const WIDTH: usize = 65;
 
 // The room that table 0 needs, its rows, and the passes; or that the passes are too many.
-#[derive(Drop)]
+#[derive(Clone, Copy)]
 pub enum Inferred {
     Made(usize, usize, usize),
     TooManyPasses,
 }
 
 // The rows of the keys, the accounts that need room, and the passes.
-#[derive(Drop)]
+#[derive(Clone, Copy)]
 struct Concluded {
     rows: usize,
     room: usize,

@@ -183,7 +183,7 @@ fn list(
 }
 
 // How many accounts are recorded, and how many plain transfers there are.
-#[derive(Drop)]
+#[derive(Clone, Copy)]
 pub struct Gathered {
     pub room: usize,
     pub count: usize,

@@ -59,7 +59,7 @@ fn pass(table: &mut [u8], from: &[u32], to: &[u32], n: usize) -> usize
     added
 }
 
-#[derive(Drop)]
+#[derive(Clone, Copy)]
 pub struct Ran {
     pub passes: usize,
     pub room: usize,

@@ -40,7 +40,7 @@ fn admit(report: &mut [u8], rows: usize, t: &[u8], wait: &[usize], count: usize)
 }
 
 // Where a walk over a table ended, and how many transfers wait.
-#[derive(Drop)]
+#[derive(Clone, Copy)]
 pub(crate) struct Reached {
     to: usize,
     waiting: usize,

@@ -3,6 +3,8 @@
 // A report line is a mint's own, or an account's and a mint's. A call reads the report once, and finds the lines of each transfer by halving. A transfer
 // whose lines are all there is added at once; others wait, at most 1,024 of them, until rows for their new lines are put in by one walk from the report's end.
 // Sums do not ask in which order they are made, so what is left is what `feed` says.
+#![tactic(auto)]
+
 mod empty;
 mod feed;
 mod good;
@@ -27,7 +29,7 @@ const LIMIT: u32 = 4294967295;
 
 // What a call answers: a refusal or 0, its place, which is 0, and rows used and transfers fed, as they are then.
 #[repr(C)]
-#[derive(Drop)]
+#[derive(Clone, Copy)]
 pub struct MonthAnswer {
     pub number: u32,
     pub place: u32,

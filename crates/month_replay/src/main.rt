@@ -3,6 +3,8 @@
 // Standard input is records as compare/src/month/stored.rs has them, one after the other. Each call is made anew, and its four numbers and every byte of the
 // report are held to what is stored. The last line says how many answers there were and how many differ.
 // The crate's own input ends with records that are damaged on purpose (compare/src/month/damaged.rs), so that its output shows each kind of difference told.
+#![tactic(auto)]
+
 mod held;
 
 use held::Found;
@@ -37,7 +39,7 @@ fn line(k: u32, text: &[u8]) {
 }
 
 // The length of the next record.
-#[derive(Drop)]
+#[derive(Clone, Copy)]
 enum Length {
     End,
     Of(u32),

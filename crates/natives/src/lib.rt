@@ -2,6 +2,8 @@
 //
 // Every function is total. `form` tells what an instruction asks for, `held` the account whose final mint decides on it, and `settle`, to which that mint is
 // handed, what counts of it.
+#![tactic(auto)]
+
 ghost use Rattle.std.specs.Prelude.{◌≡◌, ◌&&◌, ◌||◌, [], ◌∷◌, leb, length};
 ghost use Rattle.std.proofs.lemmas.List.Edits.{sets};
 ghost use Rattle.wire.specs.Same.{same};
@@ -18,7 +20,7 @@ use ids::Id;
 pub const WIDTH: usize = 109;
 
 // An action, its accounts by index bytes: fund (account, source, lamports), sync (account), close (account, destination, authority).
-#[derive(Drop)]
+#[derive(Clone, Copy)]
 pub enum Native {
     Nothing,
     Fund(u8, u8, u64),

@@ -20,7 +20,7 @@ fn height_code(s: &[u8], at: usize) -> u64
 
 // How far the groups of an outer instruction are written: where their section starts in the pack, the outer instruction, the group that comes next as the
 // chain has it (one higher, 0 after the last), and the place of the arrays that it goes to.
-#[derive(Drop)]
+#[derive(Clone, Copy)]
 struct Way {
     base: usize,
     outer: u32,
@@ -162,7 +162,7 @@ fn fill(
 }
 
 // What flattening finds: the verdict, and how many invocations there are (none where the pack is refused).
-#[derive(Drop)]
+#[derive(Clone, Copy)]
 pub struct Flat {
     pub verdict: Verdict,
     pub count: usize,

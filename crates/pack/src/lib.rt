@@ -2,6 +2,8 @@
 //
 // Total over all bytes. `flatten` answers which of the refusals 2, 3, 4, 5, 11 and 6 a pack meets, and says where each invocation's instruction stands and
 // where it was run, `section` shows a part of the pack, and `program`, `accounts` and `data` read an instruction back from its offset.
+#![tactic(auto)]
+
 ghost use Rattle.std.specs.Prelude.{◌≡◌, ◌+◌, ◌<◌, ◌≤◌, length, get_or};
 ghost use Rattle.wire.specs.Le.{le};
 ghost use Rattle.pack.specs.Items.{item_end};
@@ -20,7 +22,7 @@ use whole::Count;
 
 // What is wrong with a pack: nothing; its size or mark; its section starts; a row or item of a section, the lowest such; too many keys; a balance row that
 // names no key; too many invocations.
-#[derive(Drop)]
+#[derive(Clone, Copy)]
 pub enum Verdict {
     Good,
     Mark,

@@ -8,14 +8,14 @@ ghost use Rattle.pack.specs.declared.whole.Count.TheVariants.{Of, Broken};
 ghost use Rattle.pack.specs.declared.whole.Walk.TheVariants.{To, Cut};
 
 // How many items a section has, or that they do not fill it.
-#[derive(Drop)]
+#[derive(Clone, Copy)]
 pub enum Count {
     Of(usize),
     Broken,
 }
 
 // Where a run of items ends, or that one of them is cut short or has a bad height.
-#[derive(Drop)]
+#[derive(Clone, Copy)]
 pub enum Walk {
     To(usize),
     Cut,

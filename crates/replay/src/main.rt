@@ -3,6 +3,8 @@
 // Standard input is records as compare/src/stored.rs has them, one after the other. Each call is made anew, into tables full of other bytes, and its nine
 // numbers and every byte of its five tables are held to what is stored. The last line says how many answers there were and how many differ.
 // The crate's own input ends with records that are damaged on purpose (compare/src/damaged.rs), so that its output shows each kind of difference told.
+#![tactic(auto)]
+
 mod held;
 
 use held::Found;
@@ -41,7 +43,7 @@ fn line(k: u32, text: &[u8]) {
 }
 
 // The length of the next record.
-#[derive(Drop)]
+#[derive(Clone, Copy)]
 enum Length {
     End,
     Of(u32),

@@ -2,7 +2,7 @@
 use ids::Id;
 
 // Its program, its offset in the pack, the number of its invocation, and the row that it takes if it gives one.
-#[derive(Drop)]
+#[derive(Clone, Copy)]
 pub(crate) struct Candidate {
     pub(crate) program: Id,
     pub(crate) at: usize,

@@ -2,6 +2,8 @@
 //
 // Every refusal has a number and a place, and leaves all five tables zero. Nothing is asked of the caller: whatever the bytes and the tables' lengths are,
 // the answer and the tables are those of the definition `route`.
+#![tactic(auto)]
+
 mod actions;
 mod candidate;
 mod fill;
@@ -20,7 +22,7 @@ pub use needs::room;
 
 // Number 0 for a success, else a refusal and its place; the rows of each table, the passes over the plain transfers, the calls of `descendant`.
 #[repr(C)]
-#[derive(Drop)]
+#[derive(Clone, Copy)]
 pub struct Answer {
     pub number: u32,
     pub place: u32,
@@ -35,7 +37,7 @@ pub struct Answer {
 
 // Number 0, or the refusal that the pack meets and its place; then rows for each table that suffice whatever the names are.
 #[repr(C)]
-#[derive(Drop)]
+#[derive(Clone, Copy)]
 pub struct RowsNeeded {
     pub number: u32,
     pub place: u32,

@@ -1,4 +1,6 @@
 // Prints the name, the listing and the tree of each file that its arguments name: inputs at the edges of what `routes` and `tree` read and print.
+#![tactic(auto)]
+
 use libc::STDOUT_FILENO;
 
 // The file is opened twice, so that the listing and the tree each read it from its start.

@@ -3,13 +3,15 @@
 //
 // The arrays are filled from the last invocation backwards. A block that is known is passed whole, and that once at most, by its parent. For every content of
 // the arrays the answers are those of the definitions over the positions that the arrays hold, and the calls are at most 2n - 2.
+#![tactic(auto)]
+
 ghost use Rattle.std.specs.Prelude.{◌≡◌, cond, ◌||◌, ◌+◌, ◌≤◌, ◌<◌, length, get_or};
 ghost use Rattle.pack.specs.Invocation.{position_at};
 ghost use Rattle.subtrees.specs.Descendant.{descendant};
 ghost use Rattle.subtrees.specs.Subtrees.{position_of, positions, taken, odd, joined, Known, Parented, Stepped, Subtrees};
 
 // What one step finds: the end of an invocation, the bits inside its block, and how often it called `descendant`.
-#[derive(Drop)]
+#[derive(Clone, Copy)]
 struct Subtree {
     end: u32,
     inside: u8,

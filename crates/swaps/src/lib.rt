@@ -2,6 +2,8 @@
 //
 // Each protocol has a file and a function, proved equal to its definition. `leg` picks the function by the program and answers a leg in numbers; `put_leg`
 // writes a leg's row, given what is known of its mints and the graduated pools.
+#![tactic(auto)]
+
 mod amm_v4;
 mod clmm;
 mod cpmm;
@@ -22,7 +24,7 @@ ghost use Rattle.swaps.specs.Swap.{trades as trades_of, by_program, indexed as i
 use ids::Id;
 
 // A leg in numbers. Accounts are indexes of keys in what `leg` answers, and places among the instruction's accounts in a protocol's own function.
-#[derive(Drop)]
+#[derive(Clone, Copy)]
 pub struct Swap {
     pub protocol: u8,
     pub pool: u8,
@@ -39,7 +41,7 @@ pub struct Swap {
     pub second: u8,
 }
 
-#[derive(Drop)]
+#[derive(Clone, Copy)]
 pub enum Found {
     Nothing,
     Leg(Swap),

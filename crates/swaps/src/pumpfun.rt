@@ -60,7 +60,7 @@ fn wrapped(keys: &[u8], accounts: &[u8]) -> bool
 }
 
 // Where the pool, the user and the user's two token accounts stand among the accounts.
-#[derive(Drop)]
+#[derive(Clone, Copy)]
 struct Places {
     pool: u8,
     user: u8,

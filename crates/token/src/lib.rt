@@ -1,6 +1,8 @@
 // Token instructions: which one some data is, and which transfer it gives (the module `row` writes that one's row).
 //
 // Every function is total. An instruction is read once, into an enum of numbers; keys stay indexes until a row is written.
+#![tactic(auto)]
+
 ghost use Rattle.std.specs.Prelude.{◌≡◌, cond, ◌&&◌, ◌||◌, leb, eqb, length, get_or};
 ghost use Rattle.ids.specs.Keys.{key_of, is_zero};
 ghost use Rattle.token.specs.Programs.{is_token, is_spl, is_token2022};
@@ -15,7 +17,7 @@ use ids::Id;
 pub mod row;
 
 // A token instruction, with the amount that it names, and the fee.
-#[derive(Drop)]
+#[derive(Clone, Copy)]
 pub enum Token {
     Other,
     Initialise,
@@ -140,7 +142,7 @@ pub fn parse(id: Id, accounts: usize, data: &[u8]) -> Token
 
 // The transfer that an instruction gives: index bytes of source and destination, amount, and the fee where it is known. Or why it gives none: the first test
 // that it fails.
-#[derive(Drop)]
+#[derive(Clone, Copy)]
 pub enum Moved {
     NotToken,
     UnsupportedTag,

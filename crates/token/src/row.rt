@@ -12,7 +12,7 @@ use super::Moved;
 pub const WIDTH: usize = 150;
 
 // What a row tells of the transfer alone: its ends by index bytes, its amount, and its fee behind a flag, both 0 where it is not known.
-#[derive(Drop)]
+#[derive(Clone, Copy)]
 struct Fields {
     source: u8,
     destination: u8,

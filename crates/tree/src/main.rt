@@ -1,4 +1,6 @@
 // Prints the tree of the names and the pack on standard input.
+#![tactic(auto)]
+
 use libc::STDIN_FILENO;
 
 fn main() {

@@ -3,6 +3,8 @@
 // Every function is total: a byte past the end reads as 0, and a store past the end does nothing. So a contract is one equation, with no condition on
 // offsets, and no caller has to prove that a field fits. Where all bytes of a number are there, they are read and stored in one statement each, which
 // the compiler turns into one load or store; runs are copied and compared eight bytes at a time, and what is left byte by byte.
+#![tactic(auto)]
+
 ghost use Rattle.std.specs.Prelude.{◌≡◌, ◌+◌, ◌<◌, ◌≤◌, length, get_or, set, take, drop};
 ghost use Rattle.std.proofs.lemmas.List.Edits.{sets};
 ghost use Rattle.wire.specs.Le.{le, le_bytes, swapped, Bytes};
