@@ -15,6 +15,7 @@ use Rattle.wire.specs.Ascending.{Ascending, asc_cons, asc_nil}
 
 -- two members with one key are one
 pub ascending-once : {A : Type 0} {key : A → List ℕ} {t : List A} {x y : A} → Ascending key t → Memᴰ x t → Memᴰ y t → key x ≡ key y → x ≡ y
+ascending-once {A = A} {key = key} {x = x} {y = y} asc_nil h _ k = elim h [ ]
 ascending-once (asc_cons f s) (Memᴰ.head d) (Memᴰ.head e) k = d ∙ sym e
 ascending-once {A} {key} {x} {y} (asc_cons {r} f s) (Memᴰ.head d) (Memᴰ.tail j) k =
     absurd (below-differ (f y j) (sym (ap key d) ∙ k))

@@ -21,6 +21,7 @@ pub key? : (a b : List ℕ) → Dec (a ≡ b)
 key? = List-discrete ℕ_discrete
 
 pub below_irrefl : {a : List ℕ} → ¬ Below a a
+below_irrefl {a = []} h = elim h [ ]
 below_irrefl {a = x ∷ a} (here h) = lt_irrefl _ h
 below_irrefl {a = x ∷ a} (next e h) = below_irrefl h
 

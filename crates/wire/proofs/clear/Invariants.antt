@@ -1,0 +1,15 @@
+-- The bytes before i are 0 and the rest are as they were, so that at the end all are 0.
+-- Assumes nothing.
+use native.Mathlib.Omega.{arith}
+use borrow.Author.Fill.{fill_none, fill_more}
+use mathlib.Core.Path.{◌≡◌, refl, ◌∙◌}
+use mathlib.Core.List.{◌++◌, append-nil}
+use Prim.Native.Nat.{◌-◌, ◌≤◌}
+use lib.ListN.{length, drop, length-set, replicate, drop_of_length-le}
+use Rattle.wire.proofs.clear.Given as goal
+
+abbrev pub invariant-loop-i : goal.invariant-loop-i
+invariant-loop-i l = (l.i ≤ length l.initial.d) × (length l.d ≡ length l.initial.d) × (l.d ≡ replicate l.i 0 ++ drop l.i l.initial.d)
+
+abbrev pub decreases-loop-i : goal.decreases-loop-i
+decreases-loop-i l = length l.d - l.i
