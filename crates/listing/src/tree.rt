@@ -12,9 +12,11 @@ ghost use Rattle.listing.specs.Listing.{row_in};
 ghost use Rattle.listing.specs.Tree.{spaced_all, tree_head, own_in, branch_of, first_lines, tree};
 ghost use Rattle.listing.specs.Puts.{PutsText};
 
-use crate::{field, named, names_end, number, refused, routed, word};
-use libc::STDOUT_FILENO;
+use crate::{field, named, names_end, number, read, refused, routed, word};
 use route::width;
+use std::alloc::Global;
+use std::io;
+use std::io::{Read, Write};
 
 // What the invocation of a row has itself: 1 a transfer, 2 a swap.
 fn own_in(row: &[u8]) -> u8
@@ -135,11 +137,13 @@ fn draw(input: &[u8], out: &mut [u8]) -> usize
     branches(out, next, n, &outer, &inner, &height, &own)
 }
 
-// Prints the tree of what a file holds, as `print` of the listing does.
-pub fn print(fd: i32) {
-    let mut input = [0u8; 61529];
-    let n = io::read_full(fd, &mut input);
-    let mut text = io::large_buffer();
-    let k = draw(&input[..n], &mut text);
-    io::write_all(STDOUT_FILENO, &text[..k]);
+// Prints the tree of what an input holds, as `print` of the listing does.
+pub fn print<R: Read + Drop, W: Write>(alloc: Global, input: R, output: &mut W) -> io::Result<()>
+    ensures { OnOk result (IfSome (R.remaining input)
+        (λ all. Appends (W.contents output.old) (W.contents output.new) (tree (take 61529 all)))) }
+{
+    let bytes = read(alloc, input)?;
+    let mut text = [0u8; 65536];
+    let k = draw(&bytes, &mut text);
+    output.write_all(&text[..k])
 }
