@@ -6,7 +6,8 @@
 
 pub mod tree;
 
-ghost use Rattle.std.specs.Prelude.{◌≡◌, ◌+◌, ◌*◌, ◌≤◌, length, take, drop};
+ghost use Rattle.std.specs.Prelude.{◌≡◌, ◌+◌, ◌*◌, ◌≤◌, length, take, drop, IfOk, IfSome, OnOk};
+ghost use Rattle.std.specs.Io.KnownBytes.{Appends};
 ghost use Rattle.route.specs.Widths.{invocation_width};
 ghost use Rattle.listing.specs.Decimal.{decimal};
 ghost use Rattle.listing.specs.Listing.{lines_from, route_of, listing};
@@ -204,13 +205,20 @@ fn read<R: Read + Drop>(alloc: Global, input: R) -> io::Result<Vec<u8>>
     Ok(bytes)
 }
 
+// Writes the listing of the names and the pack that the input is.
+fn write<W: Write>(input: &[u8], output: &mut W) -> io::Result<()>
+    ensures { OnOk result (Appends (W.contents output.old) (W.contents output.new) (listing input.now)) }
+{
+    let mut text = [0u8; 65536];
+    let k = list(input, &mut text);
+    output.write_all(&text[..k])
+}
+
 // Prints the listing of what an input holds.
 pub fn print<R: Read + Drop, W: Write>(alloc: Global, input: R, output: &mut W) -> io::Result<()>
     ensures { OnOk result (IfSome (R.remaining input)
         (λ all. Appends (W.contents output.old) (W.contents output.new) (listing (take 61529 all)))) }
 {
     let bytes = read(alloc, input)?;
-    let mut text = [0u8; 65536];
-    let k = list(&bytes, &mut text);
-    output.write_all(&text[..k])
+    write(&bytes, output)
 }

@@ -2,7 +2,8 @@
 //
 // Proved: its lines are those that the rows of table 1 give, so the finder and the fast path agree on every pack that is not refused. What an invocation has
 // itself comes from table 1; where the blocks end, what lies in them and who is whose child is found anew.
-ghost use Rattle.std.specs.Prelude.{◌≡◌, ◌+◌, ◌*◌, ◌≤◌, length, take};
+ghost use Rattle.std.specs.Prelude.{◌≡◌, ◌+◌, ◌*◌, ◌≤◌, length, take, IfSome, OnOk};
+ghost use Rattle.std.specs.Io.KnownBytes.{Appends};
 ghost use Rattle.std.proofs.lemmas.List.Edits.{sets};
 ghost use Rattle.wire.specs.Tab.{tab};
 ghost use Rattle.subtrees.specs.Subtrees.{positions};
@@ -137,13 +138,20 @@ fn draw(input: &[u8], out: &mut [u8]) -> usize
     branches(out, next, n, &outer, &inner, &height, &own)
 }
 
+// Writes the tree of the names and the pack that the input is.
+fn write<W: Write>(input: &[u8], output: &mut W) -> io::Result<()>
+    ensures { OnOk result (Appends (W.contents output.old) (W.contents output.new) (tree input.now)) }
+{
+    let mut text = [0u8; 65536];
+    let k = draw(input, &mut text);
+    output.write_all(&text[..k])
+}
+
 // Prints the tree of what an input holds, as `print` of the listing does.
 pub fn print<R: Read + Drop, W: Write>(alloc: Global, input: R, output: &mut W) -> io::Result<()>
     ensures { OnOk result (IfSome (R.remaining input)
         (λ all. Appends (W.contents output.old) (W.contents output.new) (tree (take 61529 all)))) }
 {
     let bytes = read(alloc, input)?;
-    let mut text = [0u8; 65536];
-    let k = draw(&bytes, &mut text);
-    output.write_all(&text[..k])
+    write(&bytes, output)
 }

@@ -29,7 +29,7 @@ same_length : tie.Need-same-length
 same_length c = search rules
 
 returns : tie.Need-returns
-unfolding listing
+unfolding listing route_of
 returns c =
     let r = c.before.before.before.before.before.before.routed in
     rw (r.ensures.0, r.ensures.1) at c.before.before.listed.ensures
