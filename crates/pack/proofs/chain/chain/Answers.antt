@@ -32,10 +32,11 @@ link-requires c =
     let z = c.args.place.now in
     let o = c.outer_count-o.result in
     let w = c.kept_places-n.ensures in
-    let room = groups-room p (section_of p 2) g.result.now o c.requires.0 refl g.ensures (count (goal.at.link-requires c).After-outer_count-o) in (
-      (omega (arith, w.0, room.1), ap length w.1 ∙ length-sets z 0 (kept_at g.result.now o) ∙ c.requires.1, c.requires.2, c.requires.3),
-      kept-room p (section_of p 2) g.result.now o c.requires.0 refl g.ensures (count (goal.at.link-requires c).After-outer_count-o) z _ c.kept_places-n.result c.requires.1 w.0 w.1,
-    )
+    let room = groups-room p (section_of p 2) g.result.now o c.requires.0 refl g.ensures (count (goal.at.link-requires c).After-outer_count-o) in
+    record {
+      n_bound = (omega (arith, w.0, room.1), ap length w.1 ∙ length-sets z 0 (kept_at g.result.now o) ∙ c.requires.1, c.requires.2, c.requires.3);
+      by_index = kept-room p (section_of p 2) g.result.now o c.requires.0 refl g.ensures (count (goal.at.link-requires c).After-outer_count-o) z _ c.kept_places-n.result c.requires.1 w.0 w.1;
+    }
 
 pub returns : goal.returns
 returns c =

@@ -46,7 +46,8 @@ kept_of c = kept_from (section c) c.args.o
 -- the first one is
 kept : (c : Else-not-keeps) → kept_of c (all c) ≡ here c ∷ kept_of c (rest c)
 kept c =
-    rw (next c).cons
+    let l = c.loop-at in
+    rw (next-group (section c) l.at l.invariant.1.0 l.invariant.1.1 (omega arith) l.invariant.1.2).cons
     (kept_cons (section c) c.args.o (here c) (rest c) (sym c.keeps.ensures ∙ c.if-not-keeps.false))
 
 pub loop-at-init : goal.loop-at-init

@@ -15,16 +15,13 @@ use mathlib.Core.List.{List, map}
 use lib.ListN.{length, get_or, drop, length-append, length-drop}
 use lib.Seq.{sets}
 use Rattle.pack.proofs.flat.own_groups.Goals as goal
-use Rattle.pack.proofs.flat.own_groups.Goals.{In-loop-c, Start}
-
-abbrev start : In-loop-c → Start
-start c = @AT:Start@
+use Rattle.pack.proofs.flat.own_groups.Goals.{In-loop-c}
 
 -- the group that the walk has come to, one before c
-found : (c : In-loop-c) → Found (start c).args.s.now (start c).args.way.base (start c).args.way.outer c.loop-c.invariant.0.gs c.loop-c.invariant.1 (c.loop-c.c - 1)
+found : (c : In-loop-c) → Found c.args.s.now c.args.way.base c.args.way.outer c.loop-c.invariant.0.gs c.loop-c.invariant.1 (c.loop-c.c - 1)
 found c =
     let l = c.loop-c in
-    let a = (start c).args in
+    let a = c.args in
     found_at a.s.now a.way.base a.way.outer l.invariant.0.gs l.invariant.1 (l.c - 1) (sym l.invariant.2 ∙ omega arith)
 
 early : (c : In-loop-c) → c.loop-c.c ≤ 1024
@@ -44,17 +41,17 @@ bounds-place-c c = omega (arith, early (goal.at.bounds-place-c c).In-loop-c)
 
 pub overflow_cast-place : goal.overflow_cast-place
 overflow_cast-place c =
-    let a = start (goal.at.overflow_cast-place c).In-loop-c in
+    let a = c in
     let ch = c.loop-c.invariant.0 in
     let m = c.loop-c.c - 1 in
     let y = found (goal.at.overflow_cast-place c).In-loop-c in
-    omega (arith, a.pre.1.1, ch.places m y.in_list, ch.good m y.in_list, group-grows a.args.s.now (get_or ch.gs m 0))
+    omega (arith, a.requires.s_bound_2, ch.places m y.in_list, ch.good m y.in_list, group-grows a.args.s.now (get_or ch.gs m 0))
 
 pub members-k-requires : goal.members-k-requires
 members-k-requires c =
     let l = c.loop-c in
-    let q = (start (goal.at.members-k-requires c).In-loop-c).requires in
-    let a = (start (goal.at.members-k-requires c).In-loop-c).args in
+    let r = c.requires in
+    let a = c.args in
     let s = a.s.now in
     let base = a.way.base in
     let i = a.way.outer in
@@ -62,7 +59,7 @@ members-k-requires c =
     let m = l.c - 1 in
     let y = found (goal.at.members-k-requires c).In-loop-c in
     let w = ap length y.splits ∙ length-append (members_at s base i (get_or ch.gs m 0)) (inside_at s base i (drop (m + 1) ch.gs)) in
-    rw (ch.places m y.in_list) (omega (arith, w, members-length s base i (get_or ch.gs m 0), l.invariant.3, q.1.0), ch.good m y.in_list, q.1.1)
+    rw (ch.places m y.in_list) (omega (arith, w, members-length s base i (get_or ch.gs m 0), l.invariant.3, r.s_bound), ch.good m y.in_list, r.s_bound_2)
 
 pub offset_bounds-next-c : goal.offset_bounds-next-c
 offset_bounds-next-c c = omega (arith, early (goal.at.offset_bounds-next-c c).In-loop-c)
@@ -73,7 +70,7 @@ bounds-next-c c = omega (arith, early (goal.at.bounds-next-c c).In-loop-c)
 pub overflow_cast-c : goal.overflow_cast-c
 overflow_cast-c c =
     let l = c.loop-c in
-    let s = (start (goal.at.overflow_cast-c c).In-loop-c).args.s.now in
+    let s = c.args.s.now in
     let ch = l.invariant.0 in
     let m = l.c - 1 in
     let y = found (goal.at.overflow_cast-c c).In-loop-c in
@@ -82,7 +79,7 @@ overflow_cast-c c =
 pub loop-c-smaller : goal.loop-c-smaller
 loop-c-smaller c =
     let l = c.loop-c in
-    let a = (start (goal.at.loop-c-smaller c).In-loop-c).args in
+    let a = c.args in
     let s = a.s.now in
     let ch = l.invariant.0 in
     let m = l.c - 1 in
@@ -93,7 +90,7 @@ loop-c-smaller c =
 pub loop-c-preserved : goal.loop-c-preserved
 loop-c-preserved c =
     let l = c.loop-c in
-    let a = (start (goal.at.loop-c-preserved c).In-loop-c).args in
+    let a = c.args in
     let s = a.s.now in
     let base = a.way.base in
     let i = a.way.outer in

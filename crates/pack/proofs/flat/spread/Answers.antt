@@ -22,12 +22,6 @@ use Rattle.pack.proofs.flat.spread.Goals.{After-start-base, In-loop-to, Start}
 use Rattle.pack.proofs.flat.spread.Invariants.{left}
 
 -- the sections and starts that were read, and what is known of them
-abbrev opened : In-loop-to → After-start-base
-opened c = @AT:After_start2@
-
-abbrev start : After-start-base → Start
-start d = @AT:Start@
-
 abbrev outs-of : After-start-base → List ℕ
 outs-of d = c.section-outs.result.now
 
