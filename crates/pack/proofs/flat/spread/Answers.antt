@@ -18,65 +18,72 @@ use mathlib.Core.List.{List, ◌∷◌, ◌++◌, map}
 use lib.ListN.{length, get_or, length-append}
 use lib.Seq.{sets}
 use Rattle.pack.proofs.flat.spread.Goals as goal
-use Rattle.pack.proofs.flat.spread.Goals.{After-start-base, In-loop-to, Start}
+use Rattle.pack.proofs.flat.spread.Goals.{After-start-base, In-loop-to}
 use Rattle.pack.proofs.flat.spread.Invariants.{left}
 
--- the sections and starts that were read, and what is known of them
-abbrev outs-of : After-start-base → List ℕ
-outs-of d = c.section-outs.result.now
-
-abbrev s-of : After-start-base → List ℕ
-s-of d = c.section-s.result.now
-
-abbrev from-of : After-start-base → ℕ
-from-of d = c.start-from.result
-
-abbrev base-of : After-start-base → ℕ
-base-of d = c.start-base.result
-
-known : (d : After-start-base) → Ready (start c).args.pack.now (outs-of c) (s-of c) (from-of c) (base-of c) (start c).args.place.now (start c).args.next.now (start c).args.first.now
+-- what is known of the sections and starts that were read
+known : (d : After-start-base) → Ready d.args.pack.now d.section-outs.result.now d.section-s.result.now d.start-from.result d.start-base.result d.args.place.now d.args.next.now d.args.first.now
 known d =
-    let a = (start c).args in
-    let q = (start c).requires in
+    let a = d.args in
+    let q = d.requires in
+    ready a.pack.now d.section-outs.result.now d.section-s.result.now d.start-from.result d.start-base.result a.place.now a.next.now a.first.now q.0 q.1 d.section-outs.ensures d.section-s.ensures d.start-from.ensures d.start-base.ensures
+
+-- and in the loop
+abbrev outs-of : In-loop-to → List ℕ
+outs-of c = c.section-outs.result.now
+
+abbrev s-of : In-loop-to → List ℕ
+s-of c = c.section-s.result.now
+
+abbrev from-of : In-loop-to → ℕ
+from-of c = c.start-from.result
+
+abbrev base-of : In-loop-to → ℕ
+base-of c = c.start-base.result
+
+opened : (c : In-loop-to) → Ready c.args.pack.now (outs-of c) (s-of c) (from-of c) (base-of c) c.args.place.now c.args.next.now c.args.first.now
+opened c =
+    let a = c.args in
+    let q = c.requires in
     ready a.pack.now (outs-of c) (s-of c) (from-of c) (base-of c) a.place.now a.next.now a.first.now q.0 q.1 c.section-outs.ensures c.section-s.ensures c.start-from.ensures c.start-base.ensures
 
-abbrev groups_of : After-start-base → List (Group ℕ)
-groups_of d = map (placed_at (base-of c) (s-of c)) (groups_at (s-of c))
+abbrev groups_of : In-loop-to → List (Group ℕ)
+groups_of c = map (placed_at (base-of c) (s-of c)) (groups_at (s-of c))
 
-abbrev left-of : After-start-base → ℕ → ℕ → List (Position × ℕ)
-left-of d i to = left (s-of c) (base-of c) (from-of c) (outs-of c) i to
+abbrev left-of : In-loop-to → ℕ → ℕ → List (Position × ℕ)
+left-of c i to = left (s-of c) (base-of c) (from-of c) (outs-of c) i to
 
 -- outer i lies in its section
-reach : (c : In-loop-to) → (c.loop-to.to + 8 ≤ item_end (outs-of (opened c)) c.loop-to.to) × (item_end (outs-of (opened c)) c.loop-to.to ≤ length (outs-of (opened c))) × (c.loop-to.i < length (outers_at (outs-of (opened c)))) × Reached (outs-of (opened c)) (c.loop-to.i + 1) (item_end (outs-of (opened c)) c.loop-to.to)
-reach c = let l = c.loop-to in reached-next (outs-of (opened c)) l.i l.to l.invariant.0 (omega arith)
+reach : (c : In-loop-to) → (c.loop-to.to + 8 ≤ item_end (outs-of c) c.loop-to.to) × (item_end (outs-of c) c.loop-to.to ≤ length (outs-of c)) × (c.loop-to.i < length (outers_at (outs-of c))) × Reached (outs-of c) (c.loop-to.i + 1) (item_end (outs-of c) c.loop-to.to)
+reach c = let l = c.loop-to in reached-next (outs-of c) l.i l.to l.invariant.0 (omega arith)
 
 -- it and its groups come next, and have room
-next : (c : In-loop-to) → left-of (opened c) c.loop-to.i c.loop-to.to ≡ (outermost c.loop-to.i, from-of (opened c) + c.loop-to.to) ∷ (inside c.loop-to.i (groups_of (opened c)) ++ left-of (opened c) (c.loop-to.i + 1) (item_end (outs-of (opened c)) c.loop-to.to))
+next : (c : In-loop-to) → left-of c c.loop-to.i c.loop-to.to ≡ (outermost c.loop-to.i, from-of c + c.loop-to.to) ∷ (inside c.loop-to.i (groups_of c) ++ left-of c (c.loop-to.i + 1) (item_end (outs-of c) c.loop-to.to))
 next c =
-    let a = opened c in
+    let a = c in
     let l = c.loop-to in
     rest-cons (λ (x : ℕ). from-of a + x) (outs-of a) (groups_of a) l.i l.to (omega (arith, l.invariant.0.few)) (omega arith)
 
-room : (c : In-loop-to) → c.loop-to.n + 1 + length (inside c.loop-to.i (groups_of (opened c))) ≤ 1024
+room : (c : In-loop-to) → c.loop-to.n + 1 + length (inside c.loop-to.i (groups_of c)) ≤ 1024
 room c =
-    let a = opened c in
+    let a = c in
     let l = c.loop-to in
     let k = length-append (inside l.i (groups_of a)) (left-of a (l.i + 1) (item_end (outs-of a) l.to)) in
-    omega (arith, ap length (next c), l.invariant.2, (known a).few)
+    omega (arith, ap length (next c), l.invariant.2, (opened c).few)
 
 -- the chain of its groups
-chain : (c : In-loop-to) → Chained (s-of (opened c)) c.loop-to.i (start (opened c)).args.place.now (start (opened c)).args.next.now (get_or (start (opened c)).args.first.now c.loop-to.i 0)
-chain c = (known (opened c)).chains c.loop-to.i (reach c).2
+chain : (c : In-loop-to) → Chained (s-of c) c.loop-to.i c.args.place.now c.args.next.now (get_or c.args.first.now c.loop-to.i 0)
+chain c = (opened c).chains c.loop-to.i (reach c).2
 
 pub loop-to-init : goal.loop-to-init
 loop-to-init c =
-    (reached-first (outs-of (goal.at.loop-to-init c).After-start-base) (known (goal.at.loop-to-init c).After-start-base).whole, omega arith, simp (sub-zero, zero-add), simp sub-zero, simp sub-zero, simp sub-zero, simp sub-zero)
+    (reached-first c.section-outs.result.now (known (goal.at.loop-to-init c).After-start-base).whole, omega arith, simp (sub-zero, zero-add), simp sub-zero, simp sub-zero, simp sub-zero, simp sub-zero)
 
 pub overflow_add-at : goal.overflow_add-at
-overflow_add-at c = omega (arith, (known (opened (goal.at.overflow_add-at c).In-loop-to)).ends)
+overflow_add-at c = omega (arith, (opened (goal.at.overflow_add-at c).In-loop-to).ends)
 
 pub overflow_cast-at : goal.overflow_cast-at
-overflow_cast-at c = omega (arith, (known (opened (goal.at.overflow_cast-at c).In-loop-to)).ends)
+overflow_cast-at c = omega (arith, (opened (goal.at.overflow_cast-at c).In-loop-to).ends)
 
 pub offset_bounds-at-n : goal.offset_bounds-at-n
 offset_bounds-at-n c = omega (arith, room (goal.at.offset_bounds-at-n c).In-loop-to)
@@ -117,11 +124,14 @@ bounds-first-i c = omega (arith, room (goal.at.bounds-first-i c).In-loop-to)
 pub overflow_cast-group-in-loop-to : goal.overflow_cast-group-in-loop-to
 overflow_cast-group-in-loop-to c =
     let ch = chain (goal.at.overflow_cast-group-in-loop-to c).In-loop-to in
-    omega (arith, ch.head, ch.few, first-le (s-of (opened (goal.at.overflow_cast-group-in-loop-to c).In-loop-to)) c.loop-to.i ch.gs 0)
+    omega (arith, ch.head, ch.few, first-le (s-of (goal.at.overflow_cast-group-in-loop-to c).In-loop-to) c.loop-to.i ch.gs 0)
 
 pub own_groups-n-requires : goal.own_groups-n-requires
-own_groups-n-requires c =
-    (chain (goal.at.own_groups-n-requires c).In-loop-to, (room (goal.at.own_groups-n-requires c).In-loop-to, (known (opened (goal.at.own_groups-n-requires c).In-loop-to)).ends.1))
+own_groups-n-requires c = record {
+      chained = chain (goal.at.own_groups-n-requires c).In-loop-to;
+      s_bound = room (goal.at.own_groups-n-requires c).In-loop-to;
+      s_bound_2 = (opened (goal.at.own_groups-n-requires c).In-loop-to).ends.1;
+    }
 
 pub item_end-to-requires : goal.item_end-to-requires
 item_end-to-requires c = let w = reach (goal.at.item_end-to-requires c).In-loop-to in omega (arith, w.0, w.1)
@@ -138,7 +148,7 @@ pub loop-to-preserved : goal.loop-to-preserved
 unfolding raised
 loop-to-preserved c =
     let l = c.loop-to in
-    let t = opened (goal.at.loop-to-preserved c).In-loop-to in
+    let t = (goal.at.loop-to-preserved c).In-loop-to in
     let here = inside l.i (groups_of t) in
     let all = left-of t l.i l.to in
     let rest = left-of t (l.i + 1) (item_end (outs-of t) l.to) in
@@ -160,7 +170,7 @@ loop-to-preserved c =
 pub returns : goal.returns
 returns c =
     let l = c.loop-to in
-    let e = rest-nil (λ (x : ℕ). from-of (goal.at.returns c).After-start-base + x) (outs-of (goal.at.returns c).After-start-base) (groups_of (goal.at.returns c).After-start-base) l.i l.to (omega (arith, l.invariant.0.few, l.invariant.0.inside)) (omega arith) in
+    let e = rest-nil (λ (x : ℕ). c.start-from.result + x) c.section-outs.result.now (map (placed_at c.start-base.result c.section-s.result.now) (groups_at c.section-s.result.now)) l.i l.to (omega (arith, l.invariant.0.few, l.invariant.0.inside)) (omega arith) in
     rw (known (goal.at.returns c).After-start-base).laid
     (record {
       count = sym (add-zero l.n) ∙ rw e at l.invariant.2 ∙ sym (zero-add _);
