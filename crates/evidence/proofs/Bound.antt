@@ -43,7 +43,7 @@ module _ {l : List Key} {e : Evidence} {ps : Transfers} (h : Among l e ps) where
       go (one o _) i = h.evidence o.says.piece o.says.account
       go (clash c _) i = h.evidence c.says.piece c.says.account
 
-  grown-within : {t u : Table} → Grown ps u t → Within l t → Within l u
+  grown-within : {u t : Table} → Grown ps u t → Within l t → Within l u
   grown-within grown w = w
   grown-within (grow {a} {b} {m} {t} j i g) w = grown-within g (record { within = λ k. go (add-cases i.fresh k) })
     where

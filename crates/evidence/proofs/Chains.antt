@@ -20,7 +20,7 @@ pub record Sound (e : Evidence) (ps : Transfers) (t : Table) : Type 0 where
   pub clear : {a : Key} → Has a zero_key t → Has a zero_key (recorded e)
 
 module _ {e : Evidence} {ps : Transfers} where
-  pub chain-mint : {a m : Key} → Chain e ps m a → m ≢ zero_key
+  pub chain-mint : {m a : Key} → Chain e ps m a → m ≢ zero_key
   chain-mint (start o) = o.says.mint
   chain-mint (along c j f n) = chain-mint c
 
@@ -29,7 +29,7 @@ module _ {e : Evidence} {ps : Transfers} where
   chain-account (along c j f n) = n
 
   -- a chain starts at an account with one recorded mint
-  pub chain-start : {a m : Key} → Chain e ps m a → (b : Key) × One e b m
+  pub chain-start : {m a : Key} → Chain e ps m a → (b : Key) × One e b m
   chain-start (start {a} o) = (a, o)
   chain-start (along c j f n) = chain-start c
 
@@ -57,7 +57,7 @@ module _ {e : Evidence} {ps : Transfers} where
       clear (inl h) = s.clear h
       clear (inr q) = absurd (i.mint (sym q.1))
 
-  grown-sound : {t u : Table} → Sound e ps t → Grown ps u t → Sound e ps u
+  grown-sound : {u t : Table} → Sound e ps t → Grown ps u t → Sound e ps u
   grown-sound s grown = s
   grown-sound s (grow j i g) = grown-sound (sound-grow s j i) g
 
@@ -66,7 +66,7 @@ module _ {e : Evidence} {ps : Transfers} where
   settled-sound s = grown-sound sound-start s.grows
 
   -- T4. Where no mint is left to hand on, every account that a chain reaches has a mint.
-  pub complete : {a m : Key} {t : Table} → Settled e ps t → Chain e ps m a → (k : Key) × Has a k t × (k ≢ zero_key)
+  pub complete : {m a : Key} {t : Table} → Settled e ps t → Chain e ps m a → (k : Key) × Has a k t × (k ≢ zero_key)
   complete {m} s (start o) = (m, (settled-sound s).kept (one_has o), one_not_zero o)
   complete {t} s (along {a} {b} c j f n) = go (complete s c) (has-or-lacks t)
     where

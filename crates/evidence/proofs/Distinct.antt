@@ -39,7 +39,7 @@ distinct-note {t} x d = note-cases Distinct x t d (distinct-put x.0 x.1 d)
 distinct-note_all : {t : Table} (e : Evidence) → Distinct t → Distinct (note_all t e)
 unfolding note_all
 distinct-note_all [] d = d
-distinct-note_all (x ∷ e) d = distinct-note_all e (distinct-note x d)
+distinct-note_all {t = t} (x ∷ e) d = distinct-note_all {t = note t x} e (distinct-note x d)
 
 pub distinct-recorded : (e : Evidence) → Distinct (recorded e)
 unfolding recorded
@@ -47,6 +47,7 @@ distinct-recorded e = distinct-note_all e distinct_nil
 
 -- each row of a distinct table is found
 pub row_has : {a m : Key} {t : Table} → Distinct t → Memᴰ (a, m) t → Has a m t
+row_has {a = a} {m = m} distinct_nil h = elim h [ ]
 row_has (distinct_cons l d) (Memᴰ.head q) = has_here (ap (λ r. r.0) q) (ap (λ r. r.1) q)
 row_has {a} {m} (distinct_cons {r} {t} l d) (Memᴰ.tail i) = has_there (λ e. has-not-lacks (row_has d i) (rw e l)) (row_has d i)
 

@@ -48,9 +48,9 @@ module _ {e : Evidence} {ps : Transfers} {t : Table} (s : Settled e ps t) where
       record { m = d.m; k = d.k; chain = along d.chain j f n; other = along d.other j f n; differ = d.differ }
 
   -- an account that a chain with another mint than its own reaches
-  stray : {a k x : Key} → Chain e ps k a → Free e a → Has a x t → k ≢ x → Doubtful e ps t a
+  stray : {k a x : Key} → Chain e ps k a → Free e a → Has a x t → k ≢ x → Doubtful e ps t a
   stray (start o) f h d = absurd (f.silent o.says)
-  stray {a} {k} {x} (along {a = b} c j f n) _ h d = go (complete s c) (chain-end c) (λ y g i q. stray c g i q)
+  stray {k} {a} {x} (along {a = b} c j f n) _ h d = go (complete s c) (chain-end c) (λ y g i q. stray c g i q)
     where
       go : ((y : Key) × Has b y t × (y ≢ zero_key)) → One e b k ⊎ Free e b → ((y : Key) → Free e b → Has b y t → k ≢ y → Doubtful e ps t b) → Doubtful e ps t a
       go (y, i, z) g below = by_cases (key? x y) (λ q. same q g) (λ q. begins f n (joined-flip j) (record { m = x; k = y; here = h; there = i; mint = z; differ = q }))

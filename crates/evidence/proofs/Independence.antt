@@ -38,7 +38,7 @@ pub same-joined : {ps ps' : Transfers} {a b : Key} → SameMembers ps ps' → Jo
 same-joined s (joined x i) = joined x (s.to i)
 
 -- and the same chains run
-pub same-chain : {e e' : Evidence} {ps ps' : Transfers} {a m : Key} → SameMembers e e' → SameMembers ps ps' → Chain e ps m a → Chain e' ps' m a
+pub same-chain : {e e' : Evidence} {ps ps' : Transfers} {m a : Key} → SameMembers e e' → SameMembers ps ps' → Chain e ps m a → Chain e' ps' m a
 same-chain se sp (start {a} o) = start (one_map (same-agree se a) o)
 same-chain se sp (along {b} c j f n) = along (same-chain se sp c) (same-joined sp j) (free-map (same-agree se b) f) n
 
@@ -56,9 +56,9 @@ module _ {e : Evidence} {ps : Transfers} where
   pub one-chain : {a m k : Key} → One e a m → Chain e ps k a → k ≡ m
   one-chain o c = ⊎_elim (λ p. o.only p.says) (λ f. absurd (f.silent o.says)) (chain-end c)
 
-  unjoined-agree : {a m k : Key} → Unjoined e ps → Chain e ps m a → Chain e ps k a → m ≡ k
+  unjoined-agree : {k a m : Key} → Unjoined e ps → Chain e ps m a → Chain e ps k a → m ≡ k
   unjoined-agree h c (start o) = one-chain o c
-  unjoined-agree {a} {m} {k} h c (along {a = b} d j f n) = go (chain-end d) (λ x. unjoined-agree h x d)
+  unjoined-agree {k} {a} {m} h c (along {a = b} d j f n) = go (chain-end d) (λ x. unjoined-agree h x d)
     where
       go : One e b k ⊎ Free e b → (Chain e ps m b → m ≡ k) → m ≡ k
       go (inl o) below = h.unjoined c f (joined-flip j) o

@@ -36,7 +36,7 @@ pass-still t (p ∷ ps) h = go (step-view t p) (λ u. pass-still u ps) h
     go (handed {b} {m} x i) below h = absurd (omega (arith, grown-length (pass-grown {ps = ps} (add t b m)), length-add t b m))
     go (still s) below h = (record { closed = λ j i. more s (below t h).0 j i }, (below t h).1)
 
-pub passed-grown : {ps : Transfers} {t u : Table} → Passed (pass_over ps) u t → Grown ps u t
+pub passed-grown : {ps : Transfers} {u t : Table} → Passed (pass_over ps) u t → Grown ps u t
 passed-grown at_end = grown
 passed-grown (one_more {t} p) = grown-trans (pass-grown t) (passed-grown p)
 
@@ -99,7 +99,7 @@ module _ (f : ℕ) (e : Evidence) (ps : Transfers) {t : Table} {n : ℕ} (h : in
       go (ran l k) = (λ z. absurd (omega (arith, ran-positive k)), λ q. absurd (lt_irrefl 0 (rw q at l)))
 
 -- T2. Handing mints on keeps the accounts distinct.
-pub grown-distinct : {ps : Transfers} {t u : Table} → Grown ps u t → Distinct t → Distinct u
+pub grown-distinct : {ps : Transfers} {u t : Table} → Grown ps u t → Distinct t → Distinct u
 grown-distinct grown d = d
 grown-distinct (grow {m} j i g) d = grown-distinct g (distinct-add m i.fresh d)
 

@@ -76,7 +76,7 @@ pub data Grown (ps : Transfers) (u : Table) : Table → Type 0 where
 pub record Closed (ps : Transfers) (t : Table) : Type 0 where
   pub closed : {a b m : Key} → Joined ps a b → ¬ Hands a b m t
 
-pub grown-trans : {ps : Transfers} {t u v : Table} → Grown ps u t → Grown ps v u → Grown ps v t
+pub grown-trans : {ps : Transfers} {u t v : Table} → Grown ps u t → Grown ps v u → Grown ps v t
 grown-trans grown h = h
 grown-trans (grow j i g) h = grow j i (grown-trans g h)
 
@@ -96,6 +96,6 @@ module _ {ps : Transfers} where
 pub length-add : (t : Table) (a m : Key) → length (add t a m) ≡ suc (length t)
 length-add t a m = omega (arith, length-append t ((a, m) ∷ []))
 
-pub grown-length : {ps : Transfers} {t u : Table} → Grown ps u t → length t ≤ length u
+pub grown-length : {ps : Transfers} {u t : Table} → Grown ps u t → length t ≤ length u
 grown-length grown = omega arith
 grown-length (grow {a} {b} {m} {t} j i g) = omega (arith, grown-length g, length-add t b m)

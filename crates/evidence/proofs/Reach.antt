@@ -82,7 +82,7 @@ module _ (e : Evidence) {m : Key} (v : m ≢ zero_key) where
   chain-only (start o) = start (one_only o)
   chain-only (along c j f n) = along (chain-only c) j (free-only f) n
 
-  only-chain : {ps : Transfers} {a k : Key} → Chain (only m e) ps k a → Chain e ps m a × (k ≡ m)
+  only-chain : {ps : Transfers} {k a : Key} → Chain (only m e) ps k a → Chain e ps m a × (k ≡ m)
   only-chain (start o) = (start (only_one o), only-mint o)
   only-chain (along c j f n) = let r = only-chain c in (along r.0 j (only-free f) n, r.1)
 

@@ -81,6 +81,7 @@ sorted_insert r n (asc_cons {r = x} {t} f s) = go (order r.0 x.0) (sorted_insert
     go (more h) below = rw (lt_key-above h) (asc_cons (λ y i. past h y (inserts-mem (insert-inserts r t) i)) below)
 
 lacks-mem : {a : Key} {t : Table} → Lacks a t → (x : Row) → Memᴰ x t → a ≢ x.0
+lacks-mem {a = a} lacks_nil x h e = elim h [ ]
 lacks-mem (lacks_cons n l) x (Memᴰ.head q) e = n (e ∙ ap (λ r. r.0) q)
 lacks-mem (lacks_cons n l) x (Memᴰ.tail i) e = lacks-mem l x i e
 

@@ -41,6 +41,7 @@ module _ (κ : ℕ → Key) (id : Id) (a d : List ℕ) where
       go true t false p false q false r = unsupported_tag t (λ l i. none l i)
         where
           none : (l : Layout) → Memᴰ l transfer_layouts → begins_as l id d ≡ false
+          none l (Memᴰ.tail (Memᴰ.tail (Memᴰ.tail h))) = elim h [ ]
           none l (Memᴰ.head e) = rw e p
           none l (Memᴰ.tail (Memᴰ.head e)) = rw e q
           none l (Memᴰ.tail (Memᴰ.tail (Memᴰ.head e))) = rw e r

@@ -94,6 +94,7 @@ module _ (κ : ℕ → Key) (id : Id) (a d : List ℕ) where
   begun l (Memᴰ.tail (Memᴰ.head e)) b =
       let c = rw (e, begins-12 id d) at b in
       rw e (reason-12 (and_left (is_token id) (eqb (get_or d 0 0) 12) c) (eqb-true _ _ (and_right (is_token id) (eqb (get_or d 0 0) 12) c)))
+  begun l (Memᴰ.tail (Memᴰ.tail (Memᴰ.tail h))) b = elim h [ ]
   begun l (Memᴰ.tail (Memᴰ.tail (Memᴰ.head e))) b =
       let c = rw (e, begins-26 id d) at b in
       let tag = and_right (is_token2022 id) (eqb (get_or d 0 0) 26 && eqb (get_or d 1 0) 1) c in

@@ -266,8 +266,8 @@ fn moved_by(token: Token, id: Id, keys: &[u8], accounts: &[u8], data: &[u8]) -> 
 // The transfer that an instruction gives, or why it gives none.
 pub fn transfer(id: Id, keys: &[u8], accounts: &[u8], data: &[u8]) -> Moved
     ensures value { result ≡ moved_of (key_of keys.now) id accounts.now «data».now }
-    ensures result_value { transfer_value (key_of keys.now) result ≡ transfer_of (key_of keys.now) id accounts.now «data».now }
-    ensures result_value_2 { reason_of result ≡ reason_for (key_of keys.now) id accounts.now «data».now }
+    ensures transfer { transfer_value (key_of keys.now) result ≡ transfer_of (key_of keys.now) id accounts.now «data».now }
+    ensures reason { reason_of result ≡ reason_for (key_of keys.now) id accounts.now «data».now }
 {
     moved_by(parse(id, accounts.len(), data), id, keys, accounts, data)
 }

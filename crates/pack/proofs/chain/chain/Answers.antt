@@ -1,0 +1,47 @@
+-- The places that are remembered have room, since no refusal meets the pack, and links over them lead to all groups of each outer instruction.
+-- Assumes nothing.
+use Rattle.pack.specs.Items.{outers_at}
+use Rattle.pack.specs.Sections.{section_of}
+use Rattle.pack.specs.Loops.{kept_at}
+use Rattle.pack.proofs.Good.{passed}
+use Rattle.pack.proofs.Filled.{groups-room, kept-room, chained}
+use native.Mathlib.Omega.{arith}
+use mathlib.Core.Path.{◌≡◌, refl, ap, ◌∙◌}
+use lib.ListN.{length}
+use lib.Seq.{length-sets}
+use borrow.Author.Rules.{rules}
+use Rattle.pack.proofs.chain.chain.Goals as goal
+use Rattle.pack.proofs.chain.chain.Goals.{After-outer_count-o}
+
+pub outer_count-o-requires : goal.outer_count-o-requires
+outer_count-o-requires c = rw c.section.ensures (passed c.args.pack.now c.requires.0).outers
+
+-- how many outer instructions there are
+count : (c : After-outer_count-o) → c.outer_count-o.result ≡ length (outers_at (section_of c.args.pack.now 2))
+count c = c.outer_count-o.ensures ∙ rw c.section.ensures
+
+pub kept_places-n-requires : goal.kept_places-n-requires
+kept_places-n-requires c =
+    let p = c.args.pack.now in
+    groups-room p (section_of p 2) c.section-s.result.now c.outer_count-o.result c.requires.0 refl c.section-s.ensures (count (goal.at.kept_places-n-requires c).After-outer_count-o)
+
+pub link-requires : goal.link-requires
+link-requires c =
+    let g = c.section-s in
+    let p = c.args.pack.now in
+    let z = c.args.place.now in
+    let o = c.outer_count-o.result in
+    let w = c.kept_places-n.ensures in
+    let room = groups-room p (section_of p 2) g.result.now o c.requires.0 refl g.ensures (count (goal.at.link-requires c).After-outer_count-o) in
+    record {
+      n_bound = (omega (arith, w.0, room.1), ap length w.1 ∙ length-sets z 0 (kept_at g.result.now o) ∙ c.requires.1, c.requires.2, c.requires.3);
+      by_index = kept-room p (section_of p 2) g.result.now o c.requires.0 refl g.ensures (count (goal.at.link-requires c).After-outer_count-o) z _ c.kept_places-n.result c.requires.1 w.0 w.1;
+    }
+
+pub returns : goal.returns
+returns c =
+    let g = c.section-s in
+    let p = c.args.pack.now in
+    let w = c.kept_places-n.ensures in
+    rw (← g.ensures)
+    (chained p (section_of p 2) g.result.now c.outer_count-o.result c.requires.0 refl g.ensures (count (goal.at.returns c).After-outer_count-o) c.args.place.now _ c.kept_places-n.result c.requires.1 w.0 w.1 _ _ c.link.ensures)

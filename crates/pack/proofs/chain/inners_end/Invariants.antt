@@ -1,0 +1,16 @@
+-- The end of what is left is the end of all.
+-- Assumes nothing.
+use Rattle.pack.specs.Items.{inners_end}
+use Rattle.pack.proofs.Walk.{inners-grow}
+use Rattle.pack.proofs.Places.{member-end}
+use Prim.Native.Nat.{ℕ, ◌-◌}
+use native.Mathlib.Nat.{sub-zero}
+use native.Mathlib.Omega.{arith}
+use mathlib.Core.Path.{◌≡◌, ◌∙◌}
+use Rattle.pack.proofs.chain.inners_end.Given as goal
+
+abbrev pub invariant-loop-j : goal.invariant-loop-j
+invariant-loop-j l = inners_end l.s (l.n - l.j) l.to ≡ inners_end l.s l.n l.at
+
+abbrev pub decreases-loop-j : goal.decreases-loop-j
+decreases-loop-j l = l.n - l.j

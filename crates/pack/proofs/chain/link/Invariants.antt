@@ -1,0 +1,17 @@
+-- Groups from place k on are chained: each holds the next of its outer instruction, and each outer instruction its first.
+-- Assumes nothing.
+use Rattle.pack.specs.Loops.{first_group_from, next_of}
+use Rattle.pack.proofs.Chains.{first_step, next-step, lower, headed}
+use Rattle.wire.specs.Le.{le}
+use Prim.Native.Nat.{ℕ, ◌+◌, ◌-◌, ◌≤◌, ◌<◌}
+use native.Mathlib.Omega.{arith}
+use mathlib.Core.Path.{◌≡◌, ◌∙◌}
+use lib.ListN.{length, get_or, take, drop, length-take, length-set, length-replicate, get_or-replicate, drop_of_length-le}
+use lib.Seq.{get_or-take}
+use Rattle.pack.proofs.chain.link.Given as goal
+
+abbrev pub invariant-loop-k : goal.invariant-loop-k
+invariant-loop-k l = (l.k ≤ l.n) × (length l.next ≡ 1024) × (length l.first ≡ 1024) × ((t : ℕ) → l.k ≤ t → t < l.n → get_or l.next t 0 ≡ next_of l.s (take l.n l.place) t) × ((i : ℕ) → i < 1024 → get_or l.first i 0 ≡ first_group_from l.s i l.k (drop l.k (take l.n l.place)))
+
+abbrev pub decreases-loop-k : goal.decreases-loop-k
+decreases-loop-k l = l.k

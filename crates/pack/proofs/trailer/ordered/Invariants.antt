@@ -1,0 +1,18 @@
+-- The loop has seen that no start before k falls.
+-- Assumes nothing.
+use Rattle.pack.specs.Sections.{start_of, ordered}
+use Rattle.pack.proofs.Tests.{all-below, not-below}
+use Prim.Native.Nat.{ℕ, ◌+◌, ◌-◌, ◌<◌, ◌≤◌}
+use mathlib.Core.Path.{◌≡◌, sym, ◌∙◌}
+use mathlib.Core.Bool.{true, false, and-false}
+use borrow.Author.Tests.{eq-eqb, ne_eqb, lt-leb, le-leb}
+use borrow.Author.Count.{below_none, below_more}
+use native.Mathlib.Omega.{arith}
+use lib.Dec.{leb, eqb}
+use Rattle.pack.proofs.trailer.ordered.Given as goal
+
+abbrev pub invariant-loop-k : goal.invariant-loop-k
+invariant-loop-k l = (l.k ≤ 5) × ((m : ℕ) → m < l.k → leb (start_of l.pack m) (start_of l.pack (m + 1)) ≡ true)
+
+abbrev pub decreases-loop-k : goal.decreases-loop-k
+decreases-loop-k l = 5 - l.k

@@ -1,0 +1,16 @@
+-- What the rest of the group comes to from here is what all of it comes to.
+-- Assumes nothing.
+use Rattle.pack.proofs.Walk.{item-grows, inners_walk, inners-ended, inners-cut, inners-bad, inners-more}
+use Prim.Native.Nat.{◌+◌, ◌-◌, ◌≤◌}
+use native.Mathlib.Nat.{sub-zero}
+use mathlib.Core.Path.{◌≡◌, sym, ◌∙◌}
+use native.Mathlib.Omega.{arith}
+use borrow.Author.Tests.{not-true, not-false}
+use lib.ListN.{length}
+use Rattle.pack.proofs.whole.inners.Given as goal
+
+abbrev pub invariant-loop-j : goal.invariant-loop-j
+invariant-loop-j l = (l.to ≤ length l.s) × (inners_walk l.s (l.n - l.j) l.to ≡ inners_walk l.s l.n l.at)
+
+abbrev pub decreases-loop-j : goal.decreases-loop-j
+decreases-loop-j l = l.n - l.j
