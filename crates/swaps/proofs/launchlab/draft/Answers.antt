@@ -20,7 +20,7 @@ returns c =
       c.choose.ensures,
       c.same_account-same.ensures,
       c.choose-input.ensures,
-      c.Mode-of.ensures,
+      c.mode_of-mode.ensures,
       c.u64_at-threshold.ensures,
       c.u64_at-amount.ensures,
     )

@@ -7,13 +7,10 @@ use mathlib.Core.List.{List}
 use mathlib.Core.Path.{◌≡◌, sym, ◌∙◌}
 use Prim.Native.Nat.{ℕ}
 use Rattle.swaps.proofs.pumpfun.leg.Goals as goal
-use Rattle.swaps.proofs.pumpfun.leg.Goals.{After-takes, Start}
-
-abbrev start : After-takes → Start
-start c = @AT:Start@
+use Rattle.swaps.proofs.pumpfun.leg.Goals.{After-takes}
 
 abbrev bytes : After-takes → List ℕ
-bytes c = (start c).args.«data».now
+bytes c = c.args.«data».now
 
 -- the four answers on the discriminator
 v2 : (c : After-takes) → c.any-v2.result ≡ is_v2 (bytes c)
@@ -33,7 +30,7 @@ unfolding is_exact
 exact c = c.neither-exact.ensures
 
 -- so the test on the accounts is the definition's
-takes : (c : After-takes) → pump_fun_takes (is_v2 (bytes c)) (is_v3 (bytes c)) (is_buy (bytes c)) (length (start c).args.accounts.now) ≡ c.takes.result
+takes : (c : After-takes) → pump_fun_takes (is_v2 (bytes c)) (is_v3 (bytes c)) (is_buy (bytes c)) (length c.args.accounts.now) ≡ c.takes.result
 takes c = rw (← v2 c, ← v3 c, ← buy c) (sym c.takes.ensures)
 
 pub returns-then-not-takes : goal.returns-then-not-takes
