@@ -1,7 +1,6 @@
 -- Each arm calls the function that the definition names for its program, or answers that there is no leg.
 -- Assumes nothing.
 use Rattle.swaps.specs.Swap.{by_program}
-use borrow.Author.Rules.{rules}
 use Rattle.swaps.proofs.by_program.Goals as goal
 
 pub returns-in-Clmm : goal.returns-in-Clmm

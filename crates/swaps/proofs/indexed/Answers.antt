@@ -1,6 +1,5 @@
 -- `index` reads the byte at a place as the definition does, for each of a leg's six places.
 -- Assumes nothing.
-use borrow.Author.Rules.{rules}
 use Rattle.swaps.proofs.indexed.Goals as goal
 
 pub returns-in-Leg : goal.returns-in-Leg

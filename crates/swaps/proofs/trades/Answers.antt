@@ -1,7 +1,6 @@
 -- Each arm answers the definition's clause for its program.
 -- Assumes nothing.
 use Rattle.swaps.specs.Swap.{trades}
-use borrow.Author.Rules.{rules}
 use Rattle.swaps.proofs.trades.Goals as goal
 
 pub returns-in-Clmm : goal.returns-in-Clmm

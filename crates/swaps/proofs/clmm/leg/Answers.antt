@@ -1,7 +1,7 @@
 -- The tests are the definition's in its order; behind them both numbers are there, and `draft` is its leg.
 -- Assumes nothing.
 use Rattle.swaps.specs.Clmm.{clmm}
-use borrow.Author.Tests.{le-leb, lt-leb, not-true, not-false}
+use borrow.Author.Tests.{le-leb, lt-leb}
 use Rattle.swaps.proofs.clmm.leg.Goals as goal
 
 pub returns-then-not-takes : goal.returns-then-not-takes

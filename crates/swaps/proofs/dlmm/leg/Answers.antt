@@ -1,7 +1,6 @@
 -- The layout and then the two kinds of discriminator are tested in the definition's order, and either draft is its leg.
 -- Assumes nothing.
 use Rattle.swaps.specs.Dlmm.{dlmm}
-use borrow.Author.Tests.{not-false, not-true}
 use Rattle.swaps.proofs.dlmm.leg.Goals as goal
 
 pub returns-then-not-swap_layout : goal.returns-then-not-swap_layout

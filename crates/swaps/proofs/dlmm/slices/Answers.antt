@@ -1,9 +1,8 @@
 -- What the walk answers from the slice that it has come to is what it answers from the first: a turn passes one whole slice, or ends where the definition ends.
 -- Assumes nothing.
 use Rattle.swaps.proofs.Slices.{tag_small, ended, stops, passes}
-use borrow.Author.Rules.{rules}
 use Rattle.swaps.specs.Dlmm.{slices, is_slice, claims, tag_size}
-use Prim.Native.Nat.{ℕ, ◌+◌, ◌-◌, ◌≤◌, ◌<◌}
+use Prim.Native.Nat.{ℕ, ◌+◌, ◌≤◌, ◌<◌}
 use lib.ListN.{get_or}
 use lib.Dec.{leb}
 use mathlib.Core.Bool.{Bool, true, false, ◌&&◌, and-false}

@@ -2,8 +2,6 @@
 -- Assumes nothing.
 use Rattle.swaps.specs.Dlmm.{slices_fit}
 use borrow.Author.Tests.{le-leb, lt-leb}
-use borrow.Author.Rules.{rules}
-use native.Mathlib.Omega.{arith}
 use Rattle.swaps.proofs.dlmm.slices_fit.Goals as goal
 
 pub returns-then-data-lt28 : goal.returns-then-data-lt28

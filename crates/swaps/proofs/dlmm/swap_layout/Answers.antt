@@ -2,7 +2,6 @@
 -- Assumes nothing.
 use Rattle.swaps.specs.Dlmm.{swap_layout}
 use borrow.Author.Tests.{le-leb, lt-leb}
-use borrow.Author.Rules.{rules}
 use Rattle.swaps.proofs.dlmm.swap_layout.Goals as goal
 
 pub returns-then-n-lt15 : goal.returns-then-n-lt15

@@ -3,7 +3,6 @@
 use native.Mathlib.Omega.{arith}
 use borrow.Author.Tests.{lt-ltb, le-ltb}
 use mathlib.Core.Path.{◌∙◌}
-use borrow.Author.Rules.{rules}
 use Rattle.swaps.proofs.fields.account.Goals as goal
 
 pub overflow_cast-accounts : goal.overflow_cast-accounts

@@ -2,7 +2,6 @@
 -- Assumes nothing.
 use borrow.Author.Tests.{lt-ltb, le-ltb}
 use Rattle.swaps.specs.Data.{is_flag}
-use borrow.Author.Rules.{rules}
 use Rattle.swaps.proofs.fields.is_flag.Goals as goal
 
 pub returns-then-data-at : goal.returns-then-data-at

@@ -1,7 +1,6 @@
 -- With 32 zeros for a stand-in `account` is the original's `account`, and `equal` compares the two keys.
 -- Assumes nothing.
 use Rattle.ids.specs.Keys.{zero_key}
-use borrow.Author.Rules.{rules}
 use Rattle.swaps.proofs.fields.same_account.Goals as goal
 
 pub returns : goal.returns

@@ -6,7 +6,6 @@ use mathlib.Core.Path.{sym, ◌∙◌}
 use lib.Seq.{take_all}
 use native.Mathlib.Omega.{arith}
 use native.Mathlib.Nat.{add-sub_cancel_left}
-use borrow.Author.Rules.{rules}
 use Rattle.swaps.proofs.launchlab.config.Goals as goal
 
 pub returns-then-names-at : goal.returns-then-names-at

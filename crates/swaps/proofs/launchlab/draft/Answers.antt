@@ -2,7 +2,6 @@
 -- Assumes nothing.
 use Rattle.swaps.specs.LaunchLab.{launch_lab_leg}
 use borrow.Author.Tests.{le-leb, lt-leb}
-use borrow.Author.Rules.{rules}
 use Rattle.swaps.proofs.launchlab.draft.Goals as goal
 
 pub returns-then-data-lt24 : goal.returns-then-data-lt24

@@ -1,7 +1,7 @@
 -- The tests are the definition's in its order; behind them flags and numbers are read where it reads them, and the discriminator chooses the form.
 -- Assumes nothing.
 use Rattle.swaps.specs.Orca.{orca}
-use borrow.Author.Tests.{le-leb, lt-leb, not-false, not-true}
+use borrow.Author.Tests.{le-leb, lt-leb}
 use mathlib.Core.Path.{sym, ◌∙◌}
 use Rattle.swaps.proofs.orca.leg.Goals as goal
 

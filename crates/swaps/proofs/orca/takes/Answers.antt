@@ -1,6 +1,5 @@
 -- The tests are the definition's in its order, and the discriminator decides the floor.
 -- Assumes nothing.
-use borrow.Author.Tests.{not-false, not-true}
 use mathlib.Core.Path.{sym, ◌∙◌}
 use Rattle.swaps.proofs.orca.takes.Goals as goal
 

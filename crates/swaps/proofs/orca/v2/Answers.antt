@@ -1,7 +1,6 @@
 -- `choose` is the definition's `cond` and `same_account` its comparison of keys, so the calls compose to its leg.
 -- Assumes nothing.
 use Rattle.swaps.specs.Orca.{orca_v2}
-use borrow.Author.Rules.{rules}
 use Rattle.swaps.proofs.orca.v2.Goals as goal
 
 pub returns : goal.returns

@@ -1,7 +1,7 @@
 -- The four answers on the discriminator are the definition's, so the tests are its tests, in its order; behind them the calls make its leg.
 -- Assumes nothing.
 use Rattle.swaps.specs.PumpFun.{is_v2, is_v3, is_buy, is_exact, pump_fun_takes, pump_fun}
-use borrow.Author.Tests.{le-leb, lt-leb, not-false, not-true}
+use borrow.Author.Tests.{le-leb, lt-leb}
 use lib.ListN.{length}
 use mathlib.Core.List.{List}
 use mathlib.Core.Path.{◌≡◌, sym, ◌∙◌}

@@ -1,9 +1,8 @@
 -- Behind the test of byte 24 and the 24 bytes of the numbers each call makes one part of the definition's leg.
 -- Assumes nothing.
 use Rattle.swaps.specs.PumpSwap.{pump_swap_leg}
-use borrow.Author.Tests.{le-leb, lt-leb, not-false, not-true}
+use borrow.Author.Tests.{le-leb, lt-leb}
 use mathlib.Core.Path.{sym, ◌∙◌}
-use borrow.Author.Rules.{rules}
 use Rattle.swaps.proofs.pumpswap.draft.Goals as goal
 
 pub returns-then-not-track_volume : goal.returns-then-not-track_volume

@@ -1,7 +1,6 @@
 -- The count and then the three pairs of discriminators are tested in the definition's order, `BUY` the number that `u64_at` reads of the names.
 -- Assumes nothing.
 use Rattle.swaps.specs.PumpSwap.{pump_swap}
-use borrow.Author.Tests.{not-false, not-true}
 use Rattle.swaps.proofs.pumpswap.leg.Goals as goal
 
 pub returns-then-not-takes : goal.returns-then-not-takes

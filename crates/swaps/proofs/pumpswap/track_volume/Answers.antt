@@ -1,7 +1,7 @@
 -- Byte 24 is looked at only of a buy and where it is there; in every other case the definition says yes too.
 -- Assumes nothing.
 use Rattle.swaps.specs.PumpSwap.{track_volume}
-use borrow.Author.Tests.{le-ltb, lt-ltb, not-false, not-true}
+use borrow.Author.Tests.{le-ltb, lt-ltb}
 use borrow.Author.Tests.{le-ltb, lt-ltb}
 use Rattle.swaps.proofs.pumpswap.track_volume.Goals as goal
 

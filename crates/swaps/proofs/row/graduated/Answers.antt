@@ -2,7 +2,6 @@
 -- Assumes nothing.
 use Rattle.ids.specs.Keys.{zero_key}
 use borrow.Author.Tests.{eq-eqb, ne_eqb}
-use borrow.Author.Rules.{rules}
 use Rattle.swaps.proofs.row.graduated.Goals as goal
 
 pub returns-then-protocol-ne3 : goal.returns-then-protocol-ne3

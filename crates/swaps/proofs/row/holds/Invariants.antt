@@ -1,14 +1,10 @@
 -- What the search answers from row i on is what it answers from the first: a turn finds the key, or passes a row that is another.
 -- Assumes nothing.
-use Rattle.swaps.proofs.Rows.{pool-here, pool-on, pool-none}
 use Rattle.pack.specs.Items.{rows}
-use Rattle.pack.specs.View.{pools_in}
 use Rattle.swaps.specs.Leg.{contains}
-use Prim.Native.Nat.{◌*◌, ◌-◌, ◌/◌, ◌≤◌}
-use lib.ListN.{length, drop}
-use mathlib.Core.Path.{◌≡◌, sym, ◌∙◌}
-use native.Mathlib.Nat.{sub-zero, add-sub_cancel_left}
-use native.Mathlib.Omega.{arith}
+use Prim.Native.Nat.{◌*◌, ◌-◌, ◌≤◌}
+use lib.ListN.{drop}
+use mathlib.Core.Path.{◌≡◌}
 use Rattle.swaps.proofs.row.holds.Given as goal
 
 abbrev pub invariant-loop-i : goal.invariant-loop-i

@@ -4,7 +4,6 @@ use Rattle.swaps.specs.Row.{end_bytes}
 use Rattle.wire.proofs.Sets.{sets-append}
 use Rattle.wire.proofs.Laws.{le_bytes-length}
 use lib.ListN.{length-append}
-use borrow.Author.Rules.{rules}
 use Rattle.swaps.proofs.row.put_end.Goals as goal
 
 pub returns : goal.returns

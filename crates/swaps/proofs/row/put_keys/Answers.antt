@@ -4,7 +4,6 @@ use Rattle.swaps.specs.Row.{key_bytes}
 use Rattle.wire.proofs.Sets.{sets-append}
 use Rattle.ids.proofs.Keys.{key-length}
 use lib.ListN.{length-append}
-use borrow.Author.Rules.{rules}
 use Rattle.swaps.proofs.row.put_keys.Goals as goal
 
 pub returns : goal.returns

@@ -7,7 +7,6 @@ use Rattle.wire.specs.Zeros.{zeros}
 use Rattle.pack.specs.View.{pools_in}
 use Rattle.swaps.specs.Row.{leg_width}
 use Rattle.swaps.proofs.Rows.{row_in}
-use borrow.Author.Rules.{rules}
 use Rattle.swaps.proofs.row.put_leg.Goals as goal
 
 pub returns-then-out-at : goal.returns-then-out-at

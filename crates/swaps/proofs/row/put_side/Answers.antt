@@ -3,7 +3,6 @@
 use Rattle.ids.specs.Keys.{zero_key, key_of}
 use Rattle.ids.proofs.Keys.{key-length}
 use Rattle.swaps.proofs.Rows.{side-mint}
-use borrow.Author.Rules.{rules}
 use Rattle.swaps.proofs.row.put_side.Goals as goal
 
 pub returns : goal.returns
