@@ -13,7 +13,7 @@ use Rattle.wire.specs.Same.{same}
 use Rattle.wire.specs.Below.{all_below}
 use Rattle.wire.proofs.Below.{below_at, and_left, and_right}
 use Rattle.pack.specs.declared.Verdict.{Verdict}
-use Rattle.pack.specs.declared.Verdict.TheVariants.{Good, Mark, Starts, Section, Keys, Balances, Invocations}
+use Rattle.pack.specs.declared.Verdict.TheVariants.{Mark, Starts, Section, Keys, Balances, Invocations}
 use Rattle.pack.specs.Sections.{mark, marked, ordered, start_of, has_section, section_of}
 use Rattle.pack.specs.Items.{keys_fill, rows_fill, outers_whole, groups_whole}
 use Rattle.pack.specs.View.{balances_named, view_of}

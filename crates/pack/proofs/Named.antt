@@ -1,6 +1,6 @@
 -- In a pack that no refusal meets every balance row names a key, so nothing has to stand in for one.
 -- Assumes nothing.
-use mathlib.Core.Path.{◌≡◌, refl, sym, subst}
+use mathlib.Core.Path.{◌≡◌, sym, subst}
 use mathlib.Core.List.{List, [], ◌∷◌, Memᴰ}
 use Prim.Native.Nat.{ℕ, zero, suc, ◌<◌}
 use native.Mathlib.Omega.{arith}
@@ -17,7 +17,7 @@ use Rattle.pack.proofs.Good.{passed}
 
 -- what holds at every place of a list holds of its members
 at_places : {A : Type 0} (P : A → Type 0) (d : A) (l : List A) → ((i : ℕ) → i < length l → P (get_or l i d)) → {x : A} → Memᴰ x l → P x
-at_places {A = A} P d [] h x4 = elim x4 [ ]
+at_places P d [] h m = elim m [ ]
 at_places P d (y ∷ l) h (Memᴰ.head e) = subst P (sym e) (h zero (omega arith))
 at_places P d (y ∷ l) h (Memᴰ.tail m) = at_places P d l (λ i k. h (suc i) (omega arith)) m
 

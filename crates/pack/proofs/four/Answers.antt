@@ -2,7 +2,6 @@
 -- Assumes nothing.
 use Rattle.wire.proofs.Laws.{le_split}
 use mathlib.Core.Path.{sym}
-use borrow.Author.Rules.{rules}
 use Rattle.pack.proofs.four.Goals as goal
 
 pub returns : goal.returns

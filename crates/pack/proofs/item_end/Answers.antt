@@ -1,7 +1,6 @@
 -- Two counts on top of eight bytes.
 -- Assumes nothing.
 use Rattle.pack.specs.Items.{item_end}
-use borrow.Author.Rules.{rules}
 use Rattle.pack.proofs.item_end.Goals as goal
 
 pub returns : goal.returns

@@ -18,7 +18,6 @@ use borrow.Author.Tests.{eq-eqb, ne_eqb}
 use native.Mathlib.Omega.{arith}
 use lib.Dec.{eqb}
 use lib.ListN.{length}
-use borrow.Author.Rules.{rules}
 use Rattle.pack.proofs.judge.Goals as goal
 use Rattle.pack.proofs.judge.Goals.{After-balances, After-section, After-section-2, After-section-3, Else-keys-gt256, Else-section-ne0}
 
@@ -37,11 +36,11 @@ early : (c : After-section)
     (marked p ≡ true) × (ordered p ≡ true) × (keys_fill (section_of p 0) ≡ true) × (rows_fill 36 (section_of p 1) ≡ true)
 unfolding rows_fill
 early c = (
-      sym c.marked.ensures ∙ c.if-not-marked.false,
-      sym c.ordered.ensures ∙ c.if-not-ordered.false,
-      rw (← c.section-keys.ensures) (sym c.keys.ensures ∙ c.if-not-keys.false),
-      rw (← c.section-balances.ensures) (eq-eqb _ _ c.if-balances-ne0.false),
-    )
+  sym c.marked.ensures ∙ c.if-not-marked.false,
+  sym c.ordered.ensures ∙ c.if-not-ordered.false,
+  rw (← c.section-keys.ensures) (sym c.keys.ensures ∙ c.if-not-keys.false),
+  rw (← c.section-balances.ensures) (eq-eqb _ _ c.if-balances-ne0.false),
+)
 
 outers-yes : (c : After-section-2)
     → let p = c.args.pack.now in

@@ -3,7 +3,6 @@
 use Rattle.wire.specs.Le.{le}
 use native.Mathlib.Nat.{add-zero}
 use native.Mathlib.Omega.{arith}
-use borrow.Author.Rules.{rules}
 use Rattle.pack.proofs.two.Goals as goal
 
 pub returns : goal.returns

@@ -9,7 +9,6 @@ use native.Mathlib.Omega.{arith}
 use mathlib.Core.Path.{◌≡◌, refl, ap, ◌∙◌}
 use lib.ListN.{length}
 use lib.Seq.{length-sets}
-use borrow.Author.Rules.{rules}
 use Rattle.pack.proofs.chain.chain.Goals as goal
 use Rattle.pack.proofs.chain.chain.Goals.{After-outer_count-o}
 

@@ -1,12 +1,8 @@
 -- The end of what is left is the end of all.
 -- Assumes nothing.
 use Rattle.pack.specs.Items.{inners_end}
-use Rattle.pack.proofs.Walk.{inners-grow}
-use Rattle.pack.proofs.Places.{member-end}
-use Prim.Native.Nat.{ℕ, ◌-◌}
-use native.Mathlib.Nat.{sub-zero}
-use native.Mathlib.Omega.{arith}
-use mathlib.Core.Path.{◌≡◌, ◌∙◌}
+use Prim.Native.Nat.{◌-◌}
+use mathlib.Core.Path.{◌≡◌}
 use Rattle.pack.proofs.chain.inners_end.Given as goal
 
 abbrev pub invariant-loop-j : goal.invariant-loop-j

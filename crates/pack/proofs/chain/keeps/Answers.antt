@@ -4,7 +4,6 @@ use Rattle.pack.specs.Loops.{keeps}
 use Rattle.wire.specs.Le.{le}
 use native.Mathlib.Omega.{arith}
 use borrow.Author.Tests.{lt-ltb, le-ltb}
-use borrow.Author.Rules.{rules}
 use Rattle.pack.proofs.chain.keeps.Goals as goal
 
 pub returns-then-o-u32_at : goal.returns-then-o-u32_at

@@ -1,17 +1,14 @@
 -- Writing the remembered places that are left from here leaves what writing all of them leaves.
 -- Assumes nothing.
-use Rattle.pack.specs.Items.{group_end, groups_from, groups_fill}
-use Rattle.pack.specs.Loops.{keeps, kept_from, kept_at}
+use Rattle.pack.specs.Items.{group_end, groups_from}
+use Rattle.pack.specs.Loops.{kept_from}
 use Rattle.pack.proofs.Places.{sets-cons, Next, next-group, groups-nil, kept_cons, kept-skip}
-use Prim.Native.Nat.{ℕ, suc, ◌+◌, ◌-◌, ◌≤◌, ◌<◌}
+use Prim.Native.Nat.{ℕ, suc, ◌-◌}
 use native.Mathlib.Nat.{zero-add, add-zero}
 use native.Mathlib.Omega.{arith}
 use mathlib.Core.Path.{◌≡◌, refl, sym, ap, ◌∙◌}
-use mathlib.Core.Bool.{true}
 use mathlib.Core.List.{List, ◌∷◌}
-use borrow.Author.Tests.{not-true, not-false}
 use lib.ListN.{length}
-use lib.Seq.{sets}
 use Rattle.pack.proofs.chain.kept_places.Goals as goal
 use Rattle.pack.proofs.chain.kept_places.Goals.{After-inners_end-at, Else-not-keeps, In-loop-at}
 

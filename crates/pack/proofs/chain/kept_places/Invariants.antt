@@ -1,15 +1,10 @@
 -- Writing the remembered places that are left from here leaves what writing all of them leaves.
 -- Assumes nothing.
-use Rattle.pack.specs.Items.{group_end, groups_from, groups_fill}
-use Rattle.pack.specs.Loops.{keeps, kept_from, kept_at}
-use Rattle.pack.proofs.Places.{sets-cons, Next, next-group, groups-nil, kept_cons, kept-skip}
-use Prim.Native.Nat.{ℕ, suc, ◌+◌, ◌-◌, ◌≤◌, ◌<◌}
-use native.Mathlib.Nat.{zero-add, add-zero}
-use native.Mathlib.Omega.{arith}
-use mathlib.Core.Path.{◌≡◌, refl, sym, ap, ◌∙◌}
+use Rattle.pack.specs.Items.{groups_from, groups_fill}
+use Rattle.pack.specs.Loops.{kept_from, kept_at}
+use Prim.Native.Nat.{ℕ, ◌+◌, ◌-◌, ◌≤◌, ◌<◌}
+use mathlib.Core.Path.{◌≡◌}
 use mathlib.Core.Bool.{true}
-use mathlib.Core.List.{List, ◌∷◌}
-use borrow.Author.Tests.{not-true, not-false}
 use lib.ListN.{length}
 use lib.Seq.{sets}
 use Rattle.pack.proofs.chain.kept_places.Given as goal

@@ -3,10 +3,10 @@
 use Rattle.pack.specs.Loops.{first_group_from, next_of}
 use Rattle.pack.proofs.Chains.{first_step, next-step, lower, headed}
 use Rattle.wire.specs.Le.{le}
-use Prim.Native.Nat.{ℕ, ◌+◌, ◌-◌, ◌≤◌, ◌<◌}
+use Prim.Native.Nat.{ℕ, ◌+◌, ◌-◌, ◌<◌}
 use native.Mathlib.Omega.{arith}
 use mathlib.Core.Path.{◌≡◌, ◌∙◌}
-use lib.ListN.{length, get_or, take, drop, length-take, length-set, length-replicate, get_or-replicate, drop_of_length-le}
+use lib.ListN.{length, get_or, take, length-take, length-set, length-replicate, get_or-replicate, drop_of_length-le}
 use lib.Seq.{get_or-take}
 use Rattle.pack.proofs.chain.link.Goals as goal
 use Rattle.pack.proofs.chain.link.Goals.{After-u32_at-i}

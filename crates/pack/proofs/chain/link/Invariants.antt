@@ -1,13 +1,9 @@
 -- Groups from place k on are chained: each holds the next of its outer instruction, and each outer instruction its first.
 -- Assumes nothing.
 use Rattle.pack.specs.Loops.{first_group_from, next_of}
-use Rattle.pack.proofs.Chains.{first_step, next-step, lower, headed}
-use Rattle.wire.specs.Le.{le}
-use Prim.Native.Nat.{ℕ, ◌+◌, ◌-◌, ◌≤◌, ◌<◌}
-use native.Mathlib.Omega.{arith}
-use mathlib.Core.Path.{◌≡◌, ◌∙◌}
-use lib.ListN.{length, get_or, take, drop, length-take, length-set, length-replicate, get_or-replicate, drop_of_length-le}
-use lib.Seq.{get_or-take}
+use Prim.Native.Nat.{ℕ, ◌≤◌, ◌<◌}
+use mathlib.Core.Path.{◌≡◌}
+use lib.ListN.{length, get_or, take, drop}
 use Rattle.pack.proofs.chain.link.Given as goal
 
 abbrev pub invariant-loop-k : goal.invariant-loop-k

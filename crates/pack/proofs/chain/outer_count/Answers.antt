@@ -1,9 +1,7 @@
 -- The instructions before the walk are counted.
 -- Assumes nothing.
-use Rattle.pack.proofs.Places.{Reached, reached-first, reached-next, reached-last}
-use Prim.Native.Nat.{◌-◌}
+use Rattle.pack.proofs.Places.{reached-first, reached-next, reached-last}
 use native.Mathlib.Omega.{arith}
-use lib.ListN.{length}
 use Rattle.pack.proofs.chain.outer_count.Goals as goal
 
 pub loop-at-init : goal.loop-at-init

@@ -1,8 +1,7 @@
 -- The instructions before the walk are counted.
 -- Assumes nothing.
-use Rattle.pack.proofs.Places.{Reached, reached-first, reached-next, reached-last}
+use Rattle.pack.proofs.Places.{Reached}
 use Prim.Native.Nat.{◌-◌}
-use native.Mathlib.Omega.{arith}
 use lib.ListN.{length}
 use Rattle.pack.proofs.chain.outer_count.Given as goal
 

@@ -3,7 +3,6 @@
 use Rattle.pack.specs.Verdict.{refusal_number}
 use Rattle.pack.proofs.Filled.{laid_none}
 use mathlib.Core.Path.{refl, sym, ap, ◌∙◌}
-use borrow.Author.Rules.{rules}
 use Rattle.pack.proofs.flat.flatten.Goals as goal
 
 pub returns-then-number-ne0 : goal.returns-then-number-ne0

@@ -6,7 +6,6 @@ use mathlib.Core.Path.{sym, ◌∙◌}
 use native.Mathlib.Numerals.{add-one}
 use borrow.Author.Tests.{eq-eqb, ne_eqb}
 use lib.ListN.{get_or}
-use borrow.Author.Rules.{rules}
 use Rattle.pack.proofs.flat.height_code.Goals as goal
 
 pub returns-then-at-eq0 : goal.returns-then-at-eq0

@@ -1,8 +1,6 @@
 -- Writing the instructions that are left from here leaves what writing all of them leaves, in each of the four arrays.
 -- Assumes nothing.
-use Rattle.pack.specs.Invocation.{Position}
-use Rattle.pack.specs.Items.{inners_end, inners_from, group_end}
-use Rattle.pack.specs.Flatten.{numbered}
+use Rattle.pack.specs.Items.{group_end}
 use Rattle.pack.specs.Layout.{raised, at_of, outer_of, inner_of, height_of}
 use Rattle.pack.proofs.Walk.{inners-grow, inners-length}
 use Rattle.pack.proofs.Counting.{numbered-length}
@@ -11,10 +9,8 @@ use Prim.Native.Nat.{ℕ, ◌+◌, ◌-◌, ◌≤◌}
 use native.Mathlib.Nat.{sub-zero, add-zero}
 use native.Mathlib.Numerals.{add-one}
 use native.Mathlib.Omega.{arith}
-use mathlib.Core.Path.{◌≡◌, refl, sym, ◌∙◌}
-use mathlib.Core.List.{List, map}
+use mathlib.Core.Path.{refl, sym, ◌∙◌}
 use lib.ListN.{length}
-use lib.Seq.{sets}
 use Rattle.pack.proofs.flat.members.Goals as goal
 use Rattle.pack.proofs.flat.members.Goals.{In-loop-j}
 

@@ -3,17 +3,10 @@
 use Rattle.pack.specs.Invocation.{Position}
 use Rattle.pack.specs.Items.{inners_end, inners_from, group_end}
 use Rattle.pack.specs.Flatten.{numbered}
-use Rattle.pack.specs.Layout.{raised, at_of, outer_of, inner_of, height_of}
-use Rattle.pack.proofs.Walk.{inners-grow, inners-length}
-use Rattle.pack.proofs.Counting.{numbered-length}
-use Rattle.pack.proofs.Places.{group-grows, member-next, member-end, member-last}
+use Rattle.pack.specs.Layout.{at_of, outer_of, inner_of, height_of}
 use Prim.Native.Nat.{ℕ, ◌+◌, ◌-◌, ◌≤◌}
-use native.Mathlib.Nat.{sub-zero, add-zero}
-use native.Mathlib.Numerals.{add-one}
-use native.Mathlib.Omega.{arith}
-use mathlib.Core.Path.{◌≡◌, refl, sym, ◌∙◌}
+use mathlib.Core.Path.{◌≡◌}
 use mathlib.Core.List.{List, map}
-use lib.ListN.{length}
 use lib.Seq.{sets}
 use Rattle.pack.proofs.flat.members.Given as goal
 

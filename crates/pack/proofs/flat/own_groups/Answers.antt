@@ -1,19 +1,14 @@
 -- The chain has come to the first group of outer i from place t on; writing the groups that are left leaves what writing all of them leaves.
 -- Assumes nothing.
-use Rattle.pack.specs.Invocation.{Position}
-use Rattle.pack.specs.Items.{groups_at}
 use Rattle.pack.specs.Layout.{inside_at, members_at, at_of, outer_of, inner_of, height_of}
-use Rattle.pack.specs.Loops.{first_group_from, Chained}
-use Rattle.pack.proofs.Chains.{first-le, first-later, members-length, none-own, Found, found_at, ahead, nearer, wrote-more}
+use Rattle.pack.proofs.Chains.{first-le, first-later, members-length, none-own, Found, found_at, nearer, wrote-more}
 use Rattle.wire.specs.Le.{le}
 use Rattle.pack.proofs.Places.{group-grows}
-use Prim.Native.Nat.{ℕ, ◌+◌, ◌-◌, ◌≤◌}
+use Prim.Native.Nat.{◌+◌, ◌-◌, ◌≤◌}
 use native.Mathlib.Nat.{add-zero}
 use native.Mathlib.Omega.{arith}
-use mathlib.Core.Path.{◌≡◌, sym, ap, ◌∙◌}
-use mathlib.Core.List.{List, map}
+use mathlib.Core.Path.{sym, ap, ◌∙◌}
 use lib.ListN.{length, get_or, drop, length-append, length-drop}
-use lib.Seq.{sets}
 use Rattle.pack.proofs.flat.own_groups.Goals as goal
 use Rattle.pack.proofs.flat.own_groups.Goals.{In-loop-c}
 

@@ -2,17 +2,13 @@
 -- Assumes nothing.
 use Rattle.pack.specs.Invocation.{Position}
 use Rattle.pack.specs.Items.{groups_at}
-use Rattle.pack.specs.Layout.{inside_at, members_at, at_of, outer_of, inner_of, height_of}
+use Rattle.pack.specs.Layout.{inside_at, at_of, outer_of, inner_of, height_of}
 use Rattle.pack.specs.Loops.{first_group_from, Chained}
-use Rattle.pack.proofs.Chains.{first-le, first-later, members-length, none-own, Found, found_at, ahead, nearer, wrote-more}
-use Rattle.wire.specs.Le.{le}
-use Rattle.pack.proofs.Places.{group-grows}
-use Prim.Native.Nat.{ℕ, ◌+◌, ◌-◌, ◌≤◌}
-use native.Mathlib.Nat.{add-zero}
-use native.Mathlib.Omega.{arith}
-use mathlib.Core.Path.{◌≡◌, sym, ap, ◌∙◌}
+use Rattle.pack.proofs.Chains.{ahead}
+use Prim.Native.Nat.{ℕ, ◌+◌}
+use mathlib.Core.Path.{◌≡◌}
 use mathlib.Core.List.{List, map}
-use lib.ListN.{length, get_or, drop, length-append, length-drop}
+use lib.ListN.{length, drop}
 use lib.Seq.{sets}
 use Rattle.pack.proofs.flat.own_groups.Given as goal
 

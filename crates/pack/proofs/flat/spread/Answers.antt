@@ -4,19 +4,18 @@ use Rattle.pack.specs.Invocation.{Position}
 use Rattle.pack.specs.Items.{item_end, outers_at, groups_at}
 use Rattle.pack.specs.Flatten.{inside, outermost}
 use Rattle.pack.specs.Loops.{Chained}
-use Rattle.pack.specs.Layout.{placed_at, spread_of, raised, at_of, outer_of, inner_of, height_of}
+use Rattle.pack.specs.Layout.{placed_at, raised, at_of, outer_of, inner_of, height_of}
 use Rattle.pack.proofs.Places.{Reached, reached-first, reached-next}
 use Rattle.pack.proofs.Chains.{first-le}
 use Rattle.pack.proofs.Filled.{Ready, ready}
-use Rattle.pack.proofs.Spread.{rest_from, rest-cons, rest-nil, wrote-outer}
-use Prim.Native.Nat.{ℕ, ◌+◌, ◌-◌, ◌≤◌, ◌<◌}
+use Rattle.pack.proofs.Spread.{rest-cons, rest-nil, wrote-outer}
+use Prim.Native.Nat.{ℕ, ◌+◌, ◌≤◌, ◌<◌}
 use native.Mathlib.Nat.{sub-zero, zero-add, add-zero}
 use native.Mathlib.Omega.{arith}
 use mathlib.Core.Path.{◌≡◌, refl, sym, ap, ◌∙◌}
 use Rattle.pack.specs.Group.{Group}
 use mathlib.Core.List.{List, ◌∷◌, ◌++◌, map}
 use lib.ListN.{length, get_or, length-append}
-use lib.Seq.{sets}
 use Rattle.pack.proofs.flat.spread.Goals as goal
 use Rattle.pack.proofs.flat.spread.Goals.{After-start-base, In-loop-to}
 use Rattle.pack.proofs.flat.spread.Invariants.{left}
@@ -128,10 +127,10 @@ overflow_cast-group-in-loop-to c =
 
 pub own_groups-n-requires : goal.own_groups-n-requires
 own_groups-n-requires c = record {
-      chained = chain (goal.at.own_groups-n-requires c).In-loop-to;
-      s_bound = room (goal.at.own_groups-n-requires c).In-loop-to;
-      s_bound_2 = (opened (goal.at.own_groups-n-requires c).In-loop-to).ends.1;
-    }
+  chained = chain (goal.at.own_groups-n-requires c).In-loop-to;
+  s_bound = room (goal.at.own_groups-n-requires c).In-loop-to;
+  s_bound_2 = (opened (goal.at.own_groups-n-requires c).In-loop-to).ends.1;
+}
 
 pub item_end-to-requires : goal.item_end-to-requires
 item_end-to-requires c = let w = reach (goal.at.item_end-to-requires c).In-loop-to in omega (arith, w.0, w.1)

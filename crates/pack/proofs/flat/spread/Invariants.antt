@@ -1,21 +1,14 @@
 -- Writing the outer instructions that are left, each with its groups, leaves what writing all of them leaves.
 -- Assumes nothing.
 use Rattle.pack.specs.Invocation.{Position}
-use Rattle.pack.specs.Items.{item_end, outers_at, groups_at}
-use Rattle.pack.specs.Flatten.{inside, outermost}
-use Rattle.pack.specs.Loops.{Chained}
-use Rattle.pack.specs.Layout.{placed_at, spread_of, raised, at_of, outer_of, inner_of, height_of}
-use Rattle.pack.proofs.Places.{Reached, reached-first, reached-next}
-use Rattle.pack.proofs.Chains.{first-le}
-use Rattle.pack.proofs.Filled.{Ready, ready}
-use Rattle.pack.proofs.Spread.{rest_from, rest-cons, rest-nil, wrote-outer}
-use Prim.Native.Nat.{ℕ, ◌+◌, ◌-◌, ◌≤◌, ◌<◌}
-use native.Mathlib.Nat.{sub-zero, zero-add, add-zero}
-use native.Mathlib.Omega.{arith}
-use mathlib.Core.Path.{◌≡◌, refl, sym, ap, ◌∙◌}
-use Rattle.pack.specs.Group.{Group}
-use mathlib.Core.List.{List, ◌∷◌, ◌++◌, map}
-use lib.ListN.{length, get_or, length-append}
+use Rattle.pack.specs.Items.{outers_at, groups_at}
+use Rattle.pack.specs.Layout.{placed_at, spread_of, at_of, outer_of, inner_of, height_of}
+use Rattle.pack.proofs.Places.{Reached}
+use Rattle.pack.proofs.Spread.{rest_from}
+use Prim.Native.Nat.{ℕ, ◌+◌, ◌-◌, ◌≤◌}
+use mathlib.Core.Path.{◌≡◌}
+use mathlib.Core.List.{List, map}
+use lib.ListN.{length}
 use lib.Seq.{sets}
 use Rattle.pack.proofs.flat.spread.Given as goal
 

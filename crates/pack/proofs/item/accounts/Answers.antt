@@ -9,7 +9,6 @@ use mathlib.Core.Bool.{false}
 use mathlib.Core.Path.{◌≡◌, sym, ◌∙◌}
 use borrow.Author.Tests.{ltb-true, ltb-false}
 use native.Mathlib.Omega.{arith}
-use borrow.Author.Rules.{rules}
 use Rattle.pack.proofs.item.accounts.Goals as goal
 use Rattle.pack.proofs.item.accounts.Goals.{After-cut}
 

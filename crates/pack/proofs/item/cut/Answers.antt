@@ -7,7 +7,6 @@ use lib.Dec.{ltb}
 use lib.ListN.{length}
 use borrow.Author.Tests.{ltb-true, ltb-false, lt-ltb, le-ltb}
 use native.Mathlib.Omega.{arith}
-use borrow.Author.Rules.{rules}
 use Rattle.pack.proofs.item.cut.Goals as goal
 
 shifted : (n at : ℕ) → 8 ≤ n → ltb (n - 8) at ≡ ltb n (at + 8)

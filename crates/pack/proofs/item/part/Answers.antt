@@ -4,7 +4,6 @@ use Rattle.pack.proofs.Parts.{to_end}
 use mathlib.Core.Path.{sym}
 use native.Mathlib.Nat.{add-sub_cancel_left}
 use native.Mathlib.Omega.{arith}
-use borrow.Author.Rules.{rules}
 use Rattle.pack.proofs.item.part.Goals as goal
 
 pub returns-then-pack-from : goal.returns-then-pack-from

@@ -1,7 +1,6 @@
 -- The first four bytes are the program index.
 -- Assumes nothing.
 use Rattle.pack.specs.Invocation.{instruction_at}
-use borrow.Author.Rules.{rules}
 use Rattle.pack.proofs.item.program.Goals as goal
 
 pub returns : goal.returns

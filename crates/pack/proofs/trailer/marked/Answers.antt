@@ -7,7 +7,6 @@ use Rattle.pack.specs.Sections.{marked, mark}
 use mathlib.Core.Path.{◌∙◌}
 use borrow.Author.Tests.{lt-leb, le-leb}
 use native.Mathlib.Omega.{arith}
-use borrow.Author.Rules.{rules}
 use Rattle.pack.proofs.trailer.marked.Goals as goal
 
 pub returns-then-pack-lt24 : goal.returns-then-pack-lt24

@@ -2,7 +2,7 @@
 -- Assumes nothing.
 use Rattle.pack.specs.Sections.{start_of, ordered}
 use Rattle.pack.proofs.Tests.{all-below, not-below}
-use Prim.Native.Nat.{ℕ, ◌+◌, ◌-◌, ◌<◌, ◌≤◌}
+use Prim.Native.Nat.{◌+◌}
 use mathlib.Core.Path.{◌≡◌, sym, ◌∙◌}
 use mathlib.Core.Bool.{true, false, and-false}
 use borrow.Author.Tests.{eq-eqb, ne_eqb, lt-leb, le-leb}

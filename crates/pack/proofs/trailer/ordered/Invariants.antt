@@ -1,14 +1,10 @@
 -- The loop has seen that no start before k falls.
 -- Assumes nothing.
-use Rattle.pack.specs.Sections.{start_of, ordered}
-use Rattle.pack.proofs.Tests.{all-below, not-below}
+use Rattle.pack.specs.Sections.{start_of}
 use Prim.Native.Nat.{ℕ, ◌+◌, ◌-◌, ◌<◌, ◌≤◌}
-use mathlib.Core.Path.{◌≡◌, sym, ◌∙◌}
-use mathlib.Core.Bool.{true, false, and-false}
-use borrow.Author.Tests.{eq-eqb, ne_eqb, lt-leb, le-leb}
-use borrow.Author.Count.{below_none, below_more}
-use native.Mathlib.Omega.{arith}
-use lib.Dec.{leb, eqb}
+use mathlib.Core.Path.{◌≡◌}
+use mathlib.Core.Bool.{true}
+use lib.Dec.{leb}
 use Rattle.pack.proofs.trailer.ordered.Given as goal
 
 abbrev pub invariant-loop-k : goal.invariant-loop-k

@@ -2,7 +2,6 @@
 -- Assumes nothing.
 use Rattle.pack.specs.Sections.{section_of, has_section}
 use borrow.Author.Tests.{lt-ltb, le-ltb, lt-leb, le-leb}
-use borrow.Author.Rules.{rules}
 use Rattle.pack.proofs.trailer.section.Goals as goal
 
 pub returns-then-pack-lt24 : goal.returns-then-pack-lt24

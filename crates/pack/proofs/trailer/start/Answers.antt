@@ -2,7 +2,6 @@
 -- Assumes nothing.
 use Rattle.pack.specs.Sections.{start_of}
 use borrow.Author.Tests.{lt-ltb, le-ltb}
-use borrow.Author.Rules.{rules}
 use Rattle.pack.proofs.trailer.start.Goals as goal
 
 pub returns-then-k-lt5 : goal.returns-then-k-lt5

@@ -4,9 +4,8 @@ use Rattle.pack.specs.View.{balances_in, balances_named}
 use Rattle.pack.proofs.Tests.{all-below, not-below}
 use Rattle.pack.proofs.Rows.{balance-row, balances-length}
 use Rattle.wire.specs.Le.{le}
-use Prim.Native.Nat.{ℕ, ◌-◌, ◌*◌, ◌/◌, ◌<◌, ◌≤◌}
-use mathlib.Core.Path.{◌≡◌, sym, ap, ◌∙◌}
-use mathlib.Core.Bool.{true, false}
+use Prim.Native.Nat.{ℕ, ◌*◌, ◌/◌, ◌<◌}
+use mathlib.Core.Path.{◌≡◌, ◌∙◌}
 use mathlib.Core.List.{List, []}
 use borrow.Author.Tests.{lt-ltb, le-ltb}
 use borrow.Author.Count.{below_none, below_more}

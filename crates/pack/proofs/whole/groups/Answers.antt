@@ -1,10 +1,10 @@
 -- What the rest of the section counts from here is what the whole counts; the bound on the groups that are left falls by one for each.
 -- Assumes nothing.
-use Rattle.pack.proofs.Walk.{groups_count, groups-ended, groups-cut, groups-more, group-cut, group-passed, kept-few}
+use Rattle.pack.proofs.Walk.{groups-ended, groups-cut, groups-more, group-cut, group-passed, kept-few}
 use Rattle.wire.specs.Le.{le}
 use Rattle.pack.specs.Items.{group_good, group_end, count_at}
 use Rattle.pack.specs.View.{groups_in}
-use Prim.Native.Nat.{ℕ, suc, ◌+◌, ◌-◌, ◌*◌, ◌≤◌, ◌<◌}
+use Prim.Native.Nat.{ℕ, suc, ◌+◌, ◌-◌, ◌*◌, ◌≤◌}
 use native.Mathlib.Nat.{zero-add}
 use mathlib.Core.Path.{◌≡◌, refl, sym, ◌∙◌}
 use borrow.Author.Tests.{lt-leb}
@@ -54,12 +54,6 @@ returns-then-s-at-lt6 c =
     let l = c.loop-at in
     let a = c.args in
     sym (groups-cut a.s.now a.o l.invariant.2.0 (l.invariant.2.0 - 1) l.at l.n (omega (arith, l.invariant.2.1)) (omega arith) (rw (lt-leb (l.at + 6) (length a.s.now) (omega arith)))) ∙ l.invariant.2.2 ∙ rw zero-add
-
-pub enum_known-end : goal.enum_known-end
-enum_known-end c = c.in-To.in-To-own.keys1
-
-pub enum_told-1 : goal.enum_told-1
-enum_told-1 c = c.in_default.in_default-own.keys2
 
 pub returns-in_default : goal.returns-in_default
 unfolding groups_in group_good

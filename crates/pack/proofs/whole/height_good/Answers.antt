@@ -4,7 +4,6 @@ use Rattle.pack.specs.Items.{height_good}
 use mathlib.Core.Path.{sym, ◌∙◌}
 use borrow.Author.Tests.{eq-eqb, ne_eqb}
 use lib.ListN.{get_or}
-use borrow.Author.Rules.{rules}
 use Rattle.pack.proofs.whole.height_good.Goals as goal
 
 pub returns-then-flag-eq0 : goal.returns-then-flag-eq0

@@ -1,12 +1,10 @@
 -- What the rest of the group comes to from here is what all of it comes to.
 -- Assumes nothing.
-use Rattle.pack.proofs.Walk.{item-grows, inners_walk, inners-ended, inners-cut, inners-bad, inners-more}
-use Prim.Native.Nat.{◌+◌, ◌-◌, ◌≤◌}
+use Rattle.pack.proofs.Walk.{item-grows, inners-ended, inners-cut, inners-bad, inners-more}
+use Prim.Native.Nat.{◌+◌}
 use native.Mathlib.Nat.{sub-zero}
-use mathlib.Core.Path.{◌≡◌, sym, ◌∙◌}
+use mathlib.Core.Path.{sym, ◌∙◌}
 use native.Mathlib.Omega.{arith}
-use borrow.Author.Tests.{not-true, not-false}
-use lib.ListN.{length}
 use Rattle.pack.proofs.whole.inners.Goals as goal
 
 pub loop-j-init : goal.loop-j-init

@@ -1,11 +1,8 @@
 -- What the rest of the group comes to from here is what all of it comes to.
 -- Assumes nothing.
-use Rattle.pack.proofs.Walk.{item-grows, inners_walk, inners-ended, inners-cut, inners-bad, inners-more}
-use Prim.Native.Nat.{◌+◌, ◌-◌, ◌≤◌}
-use native.Mathlib.Nat.{sub-zero}
-use mathlib.Core.Path.{◌≡◌, sym, ◌∙◌}
-use native.Mathlib.Omega.{arith}
-use borrow.Author.Tests.{not-true, not-false}
+use Rattle.pack.proofs.Walk.{inners_walk}
+use Prim.Native.Nat.{◌-◌, ◌≤◌}
+use mathlib.Core.Path.{◌≡◌}
 use lib.ListN.{length}
 use Rattle.pack.proofs.whole.inners.Given as goal
 

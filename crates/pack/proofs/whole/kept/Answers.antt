@@ -3,7 +3,6 @@
 use borrow.Author.Tests.{lt-ltb, le-ltb}
 use Rattle.wire.specs.Le.{le}
 use native.Mathlib.Omega.{arith}
-use borrow.Author.Rules.{rules}
 use Rattle.pack.proofs.whole.kept.Goals as goal
 
 pub returns-then-u32_at-o : goal.returns-then-u32_at-o

@@ -2,9 +2,7 @@
 -- Assumes nothing.
 use Rattle.pack.specs.Items.{keys_fill, rows_fill}
 use Rattle.pack.proofs.Tests.{all-below, not-below}
-use Prim.Native.Nat.{ℕ, ◌-◌, ◌*◌, ◌/◌, ◌%◌, ◌<◌, ◌≤◌}
-use mathlib.Core.Path.{◌≡◌}
-use mathlib.Core.Bool.{true}
+use Prim.Native.Nat.{◌*◌, ◌/◌, ◌%◌}
 use borrow.Author.Tests.{eq-eqb, ne_eqb, lt-leb, le-leb}
 use borrow.Author.Count.{below_none, below_more}
 use native.Mathlib.Omega.{arith}

@@ -1,13 +1,8 @@
 -- The loop has seen that every flag before row i is 0 or 1.
 -- Assumes nothing.
-use Rattle.pack.specs.Items.{keys_fill, rows_fill}
-use Rattle.pack.proofs.Tests.{all-below, not-below}
-use Prim.Native.Nat.{ℕ, ◌-◌, ◌*◌, ◌/◌, ◌%◌, ◌<◌, ◌≤◌}
+use Prim.Native.Nat.{ℕ, ◌-◌, ◌*◌, ◌/◌, ◌<◌, ◌≤◌}
 use mathlib.Core.Path.{◌≡◌}
 use mathlib.Core.Bool.{true}
-use borrow.Author.Tests.{eq-eqb, ne_eqb, lt-leb, le-leb}
-use borrow.Author.Count.{below_none, below_more}
-use native.Mathlib.Omega.{arith}
 use lib.Dec.{leb}
 use lib.ListN.{length, get_or}
 use Rattle.pack.proofs.whole.keys.Given as goal

@@ -1,12 +1,11 @@
 -- What the rest of the section counts from here is what the whole counts.
 -- Assumes nothing.
-use Rattle.pack.proofs.Walk.{item-grows, outers_count, outers-ended, outers-cut, outers-more}
+use Rattle.pack.proofs.Walk.{item-grows, outers-ended, outers-cut, outers-more}
 use Rattle.pack.specs.View.{outer_in}
-use Prim.Native.Nat.{suc, ◌-◌, ◌≤◌}
 use native.Mathlib.Nat.{sub-zero, zero-add}
-use mathlib.Core.Path.{◌≡◌, sym, ◌∙◌}
+use mathlib.Core.Path.{sym, ◌∙◌}
 use native.Mathlib.Omega.{arith}
-use lib.ListN.{length, length-map}
+use lib.ListN.{length-map}
 use Rattle.pack.proofs.whole.outers.Goals as goal
 
 pub loop-at-init : goal.loop-at-init

@@ -1,12 +1,9 @@
 -- What the rest of the section counts from here is what the whole counts.
 -- Assumes nothing.
-use Rattle.pack.proofs.Walk.{item-grows, outers_count, outers-ended, outers-cut, outers-more}
-use Rattle.pack.specs.View.{outer_in}
+use Rattle.pack.proofs.Walk.{outers_count}
 use Prim.Native.Nat.{suc, ◌-◌, ◌≤◌}
-use native.Mathlib.Nat.{sub-zero, zero-add}
-use mathlib.Core.Path.{◌≡◌, sym, ◌∙◌}
-use native.Mathlib.Omega.{arith}
-use lib.ListN.{length, length-map}
+use mathlib.Core.Path.{◌≡◌}
+use lib.ListN.{length}
 use Rattle.pack.proofs.whole.outers.Given as goal
 
 abbrev pub invariant-loop-at : goal.invariant-loop-at

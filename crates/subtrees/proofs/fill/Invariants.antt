@@ -1,0 +1,21 @@
+-- From invocation i on the arrays hold ends and inside bits, and which of these invocations is a parent of which, and `total` their tests; each step adds one invocation in front.
+-- Assumes nothing.
+use Rattle.subtrees.proofs.Filling.{Filling, filling-none, filling-more, filling-all}
+use Rattle.subtrees.proofs.Arrays.{positions-length}
+use Rattle.subtrees.specs.Subtrees.{positions}
+use lib.ListN.{length, length-set}
+use mathlib.Core.Path.{◌≡◌, refl}
+use Prim.Native.Nat.{◌+◌, ◌-◌, ◌*◌, ◌≤◌}
+use native.Mathlib.Omega.{arith}
+use Rattle.subtrees.proofs.fill.Given as goal
+
+abbrev pub invariant-loop-i : goal.invariant-loop-i
+invariant-loop-i l = (l.i ≤ l.n)
+    × (length l.ends ≡ 1024)
+    × (length l.inside ≡ 1024)
+    × (length l.parents ≡ 1024)
+    × (l.total ≤ 1024 * (l.n - l.i))
+    × Filling (positions l.outer l.inner l.height l.n) l.own l.ends l.inside l.parents l.total l.i
+
+abbrev pub decreases-loop-i : goal.decreases-loop-i
+decreases-loop-i l = l.i

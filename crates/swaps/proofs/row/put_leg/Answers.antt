@@ -1,0 +1,31 @@
+-- Each call stores one part of the row, which the parts fill (`row_in`), and the last one puts the row.
+-- Assumes nothing.
+use mathlib.Core.Path.{refl, ap}
+use lib.Seq.{sets}
+use Rattle.wire.proofs.Sets.{sets-past}
+use Rattle.wire.specs.Zeros.{zeros}
+use Rattle.pack.specs.View.{pools_in}
+use Rattle.swaps.specs.Row.{leg_width}
+use Rattle.swaps.proofs.Rows.{row_in}
+use Rattle.swaps.proofs.row.put_leg.Goals as goal
+
+pub returns-then-out-at : goal.returns-then-out-at
+returns-then-out-at c =
+    let h = c.if-out-at.true in
+    rw sets-past
+
+pub returns : goal.returns
+returns c =
+    let a = c.args in
+    rw (
+      c.put.ensures,
+      c.put_end.ensures,
+      c.graduated.ensures,
+      c.put_side-2.ensures,
+      c.put_side.ensures,
+      c.put_keys.ensures,
+      c.put_byte.ensures,
+      c.put_u32.ensures,
+    )
+    (ap (sets a.out.now a.at)
+    (row_in (zeros leg_width) a.invocation a.keys.now a.program a.spent.now a.bought.now (pools_in a.pools.now) a.leg refl))

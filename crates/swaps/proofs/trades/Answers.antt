@@ -1,0 +1,72 @@
+-- Each arm answers the definition's clause for its program.
+-- Assumes nothing.
+use Rattle.swaps.specs.Swap.{trades}
+use Rattle.swaps.proofs.trades.Goals as goal
+
+pub returns-in-Clmm : goal.returns-in-Clmm
+unfolding trades
+returns-in-Clmm c = rw c.in-Clmm.is
+
+pub returns-in-Orca : goal.returns-in-Orca
+unfolding trades
+returns-in-Orca c = rw c.in-Orca.is
+
+pub returns-in-Cpmm : goal.returns-in-Cpmm
+unfolding trades
+returns-in-Cpmm c = rw c.in-Cpmm.is
+
+pub returns-in-Dlmm : goal.returns-in-Dlmm
+unfolding trades
+returns-in-Dlmm c = rw c.in-Dlmm.is
+
+pub returns-in-LaunchLab : goal.returns-in-LaunchLab
+unfolding trades
+returns-in-LaunchLab c = rw c.in-LaunchLab.is
+
+pub returns-in-PumpFun : goal.returns-in-PumpFun
+unfolding trades
+returns-in-PumpFun c = rw c.in-PumpFun.is
+
+pub returns-in-PumpSwap : goal.returns-in-PumpSwap
+unfolding trades
+returns-in-PumpSwap c = rw c.in-PumpSwap.is
+
+pub returns-in-AmmV4 : goal.returns-in-AmmV4
+unfolding trades
+returns-in-AmmV4 c = rw c.in-AmmV4.is
+
+pub returns-in-SplToken : goal.returns-in-SplToken
+unfolding trades
+returns-in-SplToken c = rw c.in-SplToken.is
+
+pub returns-in-Token2022 : goal.returns-in-Token2022
+unfolding trades
+returns-in-Token2022 c = rw c.in-Token2022.is
+
+pub returns-in-WrappedSol : goal.returns-in-WrappedSol
+unfolding trades
+returns-in-WrappedSol c = rw c.in-WrappedSol.is
+
+pub returns-in-ComputeBudget : goal.returns-in-ComputeBudget
+unfolding trades
+returns-in-ComputeBudget c = rw c.in-ComputeBudget.is
+
+pub returns-in-AssociatedToken : goal.returns-in-AssociatedToken
+unfolding trades
+returns-in-AssociatedToken c = rw c.in-AssociatedToken.is
+
+pub returns-in-Memo : goal.returns-in-Memo
+unfolding trades
+returns-in-Memo c = rw c.in-Memo.is
+
+pub returns-in-System : goal.returns-in-System
+unfolding trades
+returns-in-System c = rw c.in-System.is
+
+pub returns-in-Other : goal.returns-in-Other
+unfolding trades
+returns-in-Other c = rw c.in-Other.is
+
+pub returns-in-Unresolved : goal.returns-in-Unresolved
+unfolding trades
+returns-in-Unresolved c = rw c.in-Unresolved.is
