@@ -5,16 +5,9 @@ use lib.Seq.{take_all, take-length, drop-length}
 use mathlib.Core.Path.{sym, ◌∙◌}
 use native.Mathlib.Omega.{arith}
 use borrow.Author.Rules.{rules}
-use Rattle.listing.proofs.names_end.Statement.{statement}
-use Rattle.listing.proofs.names_end.Tie as tie
+use Rattle.listing.proofs.names_end.Goals as goal
 
-returns : tie.Need-returns
-returns c =
-    let l = c.before.args.input.now in
+pub returns-then-input-lt88 : goal.returns-then-input-lt88
+returns-then-input-lt88 c =
+    let l = c.args.input.now in
     (omega arith, take-length l ∙ sym (take_all 88 l (omega arith)), drop-length l ∙ sym (drop_of_length-le l {i = 88} (omega arith)))
-
-returns-2 : tie.Need-returns-2
-returns-2 c = search rules
-
-pub names-end-spec : {M : Type 1} → statement M
-names-end-spec = tie.close (tie.spec returns returns-2)
