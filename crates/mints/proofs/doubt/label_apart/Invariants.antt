@@ -1,0 +1,18 @@
+-- Each turn writes one label more, and the last leaves none of the old ones.
+use Rattle.mints.proofs.Labelling.{own-more}
+use Rattle.mints.specs.Doubt.{own_labels}
+use Rattle.wire.proofs.Sets.{sets-whole}
+use Rattle.wire.proofs.Tab.{tab-length}
+use lib.Seq.{sets, take_all}
+use lib.ListN.{length, take, length-set}
+use Prim.Native.Nat.{ℕ, ◌-◌, ◌≤◌}
+use mathlib.Core.Path.{◌≡◌, refl, ◌∙◌}
+use native.Mathlib.Omega.{arith}
+use Rattle.mints.proofs.doubt.label_apart.Reads as reads
+use Rattle.mints.proofs.doubt.label_apart.Given as goal
+
+abbrev pub invariant-loop-r : goal.invariant-loop-r
+invariant-loop-r l = (l.r ≤ length l.initial.label) × (length l.label ≡ length l.initial.label) × (l.label ≡ sets l.initial.label 0 (take l.r (own_labels (length l.initial.label))))
+
+abbrev pub decreases-loop-r : goal.decreases-loop-r
+decreases-loop-r l = length l.initial.label - l.r

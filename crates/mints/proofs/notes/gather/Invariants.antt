@@ -1,0 +1,30 @@
+-- Each turn reads one instruction more: another program's changes nothing, a token program's is noted and listed as the definition says, and counts grow by
+-- at most two and one.
+use Rattle.mints.proofs.Gathering.{program-next, programs-all, token-is, gather-pass, gather-next, room_next, count_next}
+use Rattle.mints.specs.Gather.{is_plain, Gathered, gather_to}
+use Rattle.mints.specs.Programs.{programs_of}
+use borrow.Author.Tests.{not-true}
+use borrow.Author.Rules.{rules}
+use lib.ListN.{length, take}
+use lib.Seq.{sets}
+use Prim.Native.Nat.{◌*◌, ◌-◌, ◌≤◌}
+use mathlib.Core.Path.{◌≡◌, refl, sym, ◌∙◌}
+use native.Mathlib.Omega.{arith}
+use Rattle.mints.proofs.notes.gather.Reads as reads
+use Rattle.ids.proofs.programs.fill.Reads as fill-reads
+use Rattle.ids.proofs.programs.number.Reads as number-reads
+use Rattle.ids.proofs.of_number.Reads as of-number-reads
+use Rattle.mints.proofs.notes.list.Reads as list-reads
+use Rattle.mints.proofs.notes.observe.Reads as observe-reads
+use Rattle.pack.proofs.accounts.Reads as accounts-reads
+use Rattle.pack.proofs.data.Reads as data_Reads
+use Rattle.pack.proofs.program.Reads as program-reads
+use Rattle.token.proofs.parse.Reads as parse-reads
+use Rattle.token.proofs.token_program.Reads as token-program-reads
+use Rattle.mints.proofs.notes.gather.Given as goal
+
+abbrev pub invariant-loop-i : goal.invariant-loop-i
+invariant-loop-i l = (l.i ≤ length l.at) × (length l.table ≡ length l.initial.table) × (length l.from ≡ length l.initial.from) × (length l.to ≡ length l.initial.to) × (l.room ≤ l.i * 2) × (l.count ≤ l.i) × (gather_to l.keys l.pack l.at l.row (record { noted = record { l.table = l.initial.table; l.room = 0 }; l.from = l.initial.from; l.to = l.initial.to; l.count = 0 }) l.i ≡ record { noted = record { l.table = l.table; l.room = l.room }; l.from = l.from; l.to = l.to; l.count = l.count }) × (l.programs ≡ sets l.initial.programs 0 (take l.i (programs_of l.keys l.pack l.at)))
+
+abbrev pub decreases-loop-i : goal.decreases-loop-i
+decreases-loop-i l = length l.at - l.i

@@ -1,0 +1,18 @@
+-- Each turn notes one balance row more, and a note records at most one account more, so the count does not overflow.
+use Rattle.mints.proofs.Noting.{one-new, balance-next}
+use Rattle.mints.specs.Note.{note_at, balances_to}
+use lib.ListN.{length, take, drop, length-take, length-drop}
+use Prim.Native.Nat.{◌+◌, ◌*◌, ◌-◌, ◌/◌, ◌≤◌}
+use mathlib.Core.Path.{◌≡◌, refl, ◌∙◌}
+use native.Mathlib.Omega.{arith}
+use Rattle.mints.proofs.notes.note_balances.Reads as reads
+use Rattle.mints.proofs.notes.note.Reads as note-reads
+use Rattle.mints.proofs.notes.row_of.Reads as row-of-reads
+use Rattle.wire.proofs.u32_at.Reads as u32-at-reads
+use Rattle.mints.proofs.notes.note_balances.Given as goal
+
+abbrev pub invariant-loop-i : goal.invariant-loop-i
+invariant-loop-i l = (l.i ≤ length l.balances / 36) × (length l.table ≡ length l.initial.table) × (l.room ≤ l.i) × (balances_to l.balances l.row l.initial.table l.i ≡ record { l.table = l.table; l.room = l.room })
+
+abbrev pub decreases-loop-i : goal.decreases-loop-i
+decreases-loop-i l = length l.balances / 36 - l.i

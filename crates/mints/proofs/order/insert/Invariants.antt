@@ -1,0 +1,15 @@
+-- Elements move one place to the right, last first, so each is read before it is written over.
+use Rattle.mints.proofs.Inserting.{shift-more, inserted}
+use lib.Seq.{sets}
+use lib.ListN.{length, take, drop, length-set}
+use Prim.Native.Nat.{◌+◌, ◌-◌, ◌≤◌}
+use mathlib.Core.Path.{◌≡◌, refl}
+use native.Mathlib.Omega.{arith}
+use Rattle.mints.proofs.order.insert.Reads as reads
+use Rattle.mints.proofs.order.insert.Given as goal
+
+abbrev pub invariant-loop-i : goal.invariant-loop-i
+invariant-loop-i l = (l.j ≤ l.i) × (l.i ≤ l.k) × (length l.order ≡ length l.initial.order) × (l.order ≡ sets l.initial.order (l.i + 1) (take (l.k - l.i) (drop l.i l.initial.order)))
+
+abbrev pub decreases-loop-i : goal.decreases-loop-i
+decreases-loop-i l = l.i

@@ -1,0 +1,19 @@
+-- Each turn writes 32 bytes behind the mints before it, and behind these all is zero still.
+use Rattle.mints.proofs.Writing.{mints-length, mints-blank}
+use Rattle.mints.specs.Order.{shown_mint, mints_to}
+use Rattle.wire.proofs.Sets.{sets-next}
+use lib.Seq.{sets}
+use lib.ListN.{length, get_or}
+use Prim.Native.Nat.{◌*◌, ◌-◌, ◌≤◌}
+use native.Mathlib.Numerals.{add-one}
+use mathlib.Core.Path.{◌≡◌, refl, ◌∙◌}
+use native.Mathlib.Omega.{arith}
+use Rattle.mints.proofs.order.write_mints.Reads as reads
+use Rattle.mints.proofs.order.write_mint.Reads as write-mint-reads
+use Rattle.mints.proofs.order.write_mints.Given as goal
+
+abbrev pub invariant-loop-i : goal.invariant-loop-i
+invariant-loop-i l = (l.i ≤ l.n) × (length l.out ≡ length l.initial.out) × (l.out ≡ sets l.initial.out 0 (mints_to l.table l.row l.i))
+
+abbrev pub decreases-loop-i : goal.decreases-loop-i
+decreases-loop-i l = l.n - l.i

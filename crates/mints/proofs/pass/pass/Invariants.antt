@@ -1,0 +1,16 @@
+-- Each turn makes one step more, and a step fills in at most one account, so the count does not overflow.
+use Rattle.mints.proofs.Passing.{one-filled, pass-next}
+use Rattle.mints.specs.Pass.{pass_to}
+use lib.ListN.{length, get_or}
+use Prim.Native.Nat.{◌-◌, ◌≤◌}
+use mathlib.Core.Path.{◌≡◌, refl, ◌∙◌}
+use native.Mathlib.Omega.{arith}
+use Rattle.mints.proofs.pass.pass.Reads as reads
+use Rattle.mints.proofs.pass.step.Reads as step-reads
+use Rattle.mints.proofs.pass.pass.Given as goal
+
+abbrev pub invariant-loop-i : goal.invariant-loop-i
+invariant-loop-i l = (l.i ≤ l.n) × (length l.table ≡ length l.initial.table) × (l.added ≤ l.i) × (pass_to l.from l.to l.initial.table l.i ≡ record { l.table = l.table; room = l.added })
+
+abbrev pub decreases-loop-i : goal.decreases-loop-i
+decreases-loop-i l = l.n - l.i

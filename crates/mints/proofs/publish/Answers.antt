@@ -1,0 +1,28 @@
+-- The three calls write what they promise: the ordered rows, their bytes, and the mints by key index; ordered rows are whole rows of the table.
+use Rattle.mints.proofs.Sorting.{sort-fits, sort-length}
+use lib.ListN.{length}
+use mathlib.Core.Path.{◌≡◌, ◌∙◌}
+use native.Mathlib.Omega.{arith}
+use borrow.Author.Rules.{rules}
+use Rattle.mints.proofs.publish.Reads as reads
+use Rattle.mints.proofs.order.sort.Reads as sort-reads
+use Rattle.mints.proofs.order.write_mints.Reads as write-mints-reads
+use Rattle.mints.proofs.order.write_rows.Reads as write-rows-reads
+use Rattle.mints.proofs.publish.Goals as goal
+
+pub write_rows-requires : goal.write_rows-requires
+write_rows-requires c =
+    let sort = c.sort-k in
+    let t = c.args.table.now in
+    let n = c.args.rows in
+    let q = sort.ensures in
+    let o : length sort.new.1.1.0 ≡ 257 = sort.auto.1.1.0 in (
+      omega (arith, q.0, sort-length t n, o),
+      omega (arith, q.0, sort-length t n),
+      rw q.1 (sort-fits t n (omega arith) (omega arith)),
+    )
+
+pub returns : goal.returns
+returns c =
+    let q = c.sort-k.ensures in
+    (q.0, (c.write_rows.ensures ∙ rw q.1, c.write_mints.ensures))
