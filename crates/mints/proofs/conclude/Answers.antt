@@ -30,8 +30,8 @@ note_balances-recorded-requires c =
     let ks = a.keys.now in
     let few : key_count ks ≤ 256 = omega (arith, c.requires.0) in
     let rows = laid-is ks a.table.now a.row.now c.requires.2 c.requires.3 lay.ensures in
-    let wide : length lay.new.1.0 ≡ 257 * mint_width = lay.auto.1.0 ∙ ap length c.requires.2 ∙ length-replicate {A = ℕ} (257 * mint_width) 0 in
-    λ i. rw rows at (laid-fits ks few lay.new.1.0 wide i)
+    let wide : length lay.new.table ≡ 257 * mint_width = lay.auto.table ∙ ap length c.requires.2 ∙ length-replicate {A = ℕ} (257 * mint_width) 0 in
+    λ i. rw rows at (laid-fits ks few lay.new.table wide i)
 
 pub gather-g-requires : goal.gather-g-requires
 gather-g-requires c =
@@ -41,9 +41,9 @@ gather-g-requires c =
     let ks = a.keys.now in
     let few : key_count ks ≤ 256 = omega (arith, c.requires.0) in
     let rows = laid-is ks a.table.now a.row.now c.requires.2 c.requires.3 lay.ensures in
-    let wide : length lay.new.1.0 ≡ 257 * mint_width = lay.auto.1.0 ∙ ap length c.requires.2 ∙ length-replicate {A = ℕ} (257 * mint_width) 0 in
-    let noted : length note-balances.new.1.1.0 ≡ length lay.new.1.0 = note-balances.auto.1.1.0 in
-    ((c.requires.1, c.requires.1, c.requires.1), (λ i. rw rows at (laid-fits ks few note-balances.new.1.1.0 (noted ∙ wide) i), few))
+    let wide : length lay.new.table ≡ 257 * mint_width = lay.auto.table ∙ ap length c.requires.2 ∙ length-replicate {A = ℕ} (257 * mint_width) 0 in
+    let noted : length note-balances.new.table ≡ length lay.new.table = note-balances.auto.table in
+    record { at_in_bounds = (c.requires.1, c.requires.1, c.requires.1); fits = (λ i. rw rows at (laid-fits ks few note-balances.new.table (noted ∙ wide) i), few) }
 
 pub overflow_add-recorded : goal.overflow_add-recorded
 overflow_add-recorded c =
@@ -62,20 +62,20 @@ hand_on-ran-requires c =
     let rows = laid-is ks a.table.now a.row.now c.requires.2 c.requires.3 c.lay-rows.ensures in
     let e = gathered-is ks a.balances.now a.pack.now a.at.now rows c.note_balances-recorded.ensures c.gather-g.ensures.to_value in
     let fit : (laid_of ks).rows ≤ 257 = omega (arith, (rows-laid ks few).few) in
-    let k = counted ks a.balances.now a.pack.now a.at.now few c.requires.1 e in (
-      (
+    let k = counted ks a.balances.now a.pack.now a.at.now few c.requires.1 e in record {
+      n_bound = (
         k.0,
         noted-few ks a.balances.now a.pack.now a.at.now few c.requires.1 e (omega (arith, c.well-formed.1.0)),
         rw rows at fit,
         rw rows at (rows_long ks a.balances.now a.pack.now a.at.now few c.requires.1 e),
-      ),
-      (
+      );
+      n_in_bounds = (
         k.1,
         k.2,
         λ i. rw rows at (sources-within ks a.balances.now a.pack.now a.at.now few c.requires.1 e i),
         λ i. rw rows at (targets-within ks a.balances.now a.pack.now a.at.now few c.requires.1 e i),
-      ),
-    )
+      );
+    }
 
 pub returns : goal.returns
 returns c =
@@ -84,5 +84,5 @@ returns c =
     let ks = a.keys.now in
     let few : key_count ks ≤ 256 = omega (arith, c.requires.0) in
     let rows = laid-is ks a.table.now a.row.now c.requires.2 c.requires.3 c.lay-rows.ensures in
-    let e = gathered-is ks a.balances.now a.pack.now a.at.now rows c.note_balances-recorded.ensures gather.ensures.0 in
-    (concluded-is ks a.balances.now a.pack.now a.at.now few c.requires.1 e rows c.hand_on-ran.ensures, gather.ensures.1)
+    let e = gathered-is ks a.balances.now a.pack.now a.at.now rows c.note_balances-recorded.ensures gather.ensures.to_value in
+    record { at_value = concluded-is ks a.balances.now a.pack.now a.at.now few c.requires.1 e rows c.hand_on-ran.ensures; programs_after = gather.ensures.programs_after }

@@ -37,8 +37,8 @@ returns-then-done-eq513 c =
     let few : key_count ks ≤ 256 = omega (arith, ap length first-keys.ensures, length-take 8448 a.keys.now) in
     let short : length o ≤ 1024 = omega (arith, ap length first-offsets.ensures, length-take 1024 a.at.now) in
     let q = c.conclude-done.ensures in
-    let none = none_right ks a.balances.now a.pack.now o few short (ap (λ (x : Concluded). x.passes) q.0 ∙ c.if-done-eq513.true) in
-    rw (← first-keys.ensures, ← first-offsets.ensures, none) (refl, (refl, (refl, q.1)))
+    let none = none_right ks a.balances.now a.pack.now o few short (ap (λ (x : Concluded). x.passes) q.at_value ∙ c.if-done-eq513.true) in
+    rw (← first-keys.ensures, ← first-offsets.ensures, none) (record { value = refl; rows_after = refl; known_after = refl; programs_after = q.programs_after })
 
 pub publish-k-requires : goal.publish-k-requires
 publish-k-requires c =
@@ -50,19 +50,19 @@ publish-k-requires c =
     let o = first-offsets.result.now in
     let few : key_count ks ≤ 256 = omega (arith, ap length first-keys.ensures, length-take 8448 a.keys.now) in
     let q = conclude.ensures in
-    let table = conclude.new.1.1.1.1.0 in
-    let t : length table ≡ 257 * mint_width = conclude.auto.1.1.1.1.0 in
-    let r : length conclude.new.1.1.1.1.1.0 ≡ 256 = conclude.auto.1.1.1.1.1.0 in
-    let n = c.key_count.ensures in (
-      (
-        omega (arith, ap (λ (x : Concluded). x.rows) q.0, concluded-rows ks a.balances.now a.pack.now o few),
+    let table = conclude.new.table in
+    let t : length table ≡ 257 * mint_width = conclude.auto.table in
+    let r : length conclude.new.row ≡ 256 = conclude.auto.row in
+    let n = c.key_count.ensures in record {
+      rows_bound = (
+        omega (arith, ap (λ (x : Concluded). x.rows) q.at_value, concluded-rows ks a.balances.now a.pack.now o few),
         omega (arith, n, r, few),
         omega (arith, n, few),
         t,
-        λ i. rw q.0 at (concluded-fits ks a.balances.now a.pack.now o few table t i),
-      ),
-      refl,
-    )
+        λ i. rw q.at_value at (concluded-fits ks a.balances.now a.pack.now o few table t i),
+      );
+      known_value = refl;
+    }
 
 pub returns : goal.returns
 returns c =
@@ -75,6 +75,6 @@ returns c =
     let short : length o ≤ 1024 = omega (arith, ap length first-offsets.ensures, length-take 1024 a.at.now) in
     let q = c.conclude-done.ensures in
     let u = c.publish-k.ensures in
-    let y = rw q.0 at (some_right ks a.balances.now a.pack.now o few short (λ e. c.if-done-eq513.false (sym (ap (λ (x : Concluded). x.passes) q.0) ∙ e))) in
+    let y = rw q.at_value at (some_right ks a.balances.now a.pack.now o few short (λ e. c.if-done-eq513.false (sym (ap (λ (x : Concluded). x.passes) q.at_value) ∙ e))) in
     rw (← first-keys.ensures, ← first-offsets.ensures)
-    (rw u.0 y.answer, (u.1.0 ∙ rw y.rows, (u.1.1 ∙ rw (c.key_count.ensures, y.final), q.1)))
+    (record { value = rw u.value y.answer; rows_after = u.out_after ∙ rw y.rows; known_after = u.known_after ∙ rw (c.key_count.ensures, y.final); programs_after = q.programs_after })

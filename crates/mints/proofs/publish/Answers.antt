@@ -16,7 +16,7 @@ write_rows-requires c =
     let t = c.args.table.now in
     let n = c.args.rows in
     let q = sort.ensures in
-    let o : length sort.new.1.1.0 ≡ 257 = sort.auto.1.1.0 in (
+    let o : length sort.new.order ≡ 257 = sort.auto.order in (
       omega (arith, q.0, sort-length t n, o),
       omega (arith, q.0, sort-length t n),
       rw q.1 (sort-fits t n (omega arith) (omega arith)),
@@ -25,4 +25,4 @@ write_rows-requires c =
 pub returns : goal.returns
 returns c =
     let q = c.sort-k.ensures in
-    (q.0, (c.write_rows.ensures ∙ rw q.1, c.write_mints.ensures))
+    record { value = q.0; out_after = c.write_rows.ensures ∙ rw q.1; known_after = c.write_mints.ensures }

@@ -27,7 +27,7 @@ loop-next-preserved c =
     let l = c.loop-next in
     let a = c.args in (
       omega (arith, c.loop-next-test.true),
-      c.doubt.auto.0 ∙ l.invariant.1,
+      c.doubt.auto.table ∙ l.invariant.1,
       c.doubt.ensures ∙ mark-next a.table.now a.label.now l.next l.invariant.2 c.if-label-r-ne0.false,
     )
 

@@ -31,7 +31,7 @@ pub loop-i-preserved : goal.loop-i-preserved
 loop-i-preserved c =
     let l = c.loop-i in
     let a = c.args in
-    (omega arith, c.meet.auto.1.0 ∙ l.invariant.1, c.meet.ensures ∙ meet-next a.from.now a.to.now a.table.now a.label.now l.i l.invariant.2)
+    (omega arith, c.meet.auto.label ∙ l.invariant.1, c.meet.ensures ∙ meet-next a.from.now a.to.now a.table.now a.label.now l.i l.invariant.2)
 
 pub shape_of-label : goal.shape_of-label
 shape_of-label c = c.loop-i.invariant.1

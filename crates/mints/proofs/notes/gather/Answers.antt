@@ -74,17 +74,17 @@ loop-i-preserved c =
     let program = c.program.ensures in
     let number = c.number-number.ensures in
     let token = token-is ks p o l.i few filled program number c.of_number-id.ensures c.accounts-accounts.ensures c.«data».ensures c.parse-token.ensures in
-    let kept : length c.observe-room.new.1.1.1.1.0 ≡ length l.table = c.observe-room.auto.1.1.1.1.0 in
-    let from : length c.list-count.new.1.1.1.0 ≡ length l.from = c.list-count.auto.1.1.1.0 in
-    let to : length c.list-count.new.1.1.1.1.0 ≡ length l.to = c.list-count.auto.1.1.1.1.0 in
+    let kept : length c.observe-room.new.table ≡ length l.table = c.observe-room.auto.table in
+    let from : length c.list-count.new.from ≡ length l.from = c.list-count.auto.from in
+    let to : length c.list-count.new.to ≡ length l.to = c.list-count.auto.to in
     let listed = c.list-count.ensures in (
       omega (arith, c.loop-i-test.true),
       kept ∙ l.invariant.1,
       from ∙ l.invariant.2,
       to ∙ l.invariant.3,
       room_next ks row c.parse-token.result c.accounts-accounts.result.now (record { table = l.table; room = l.room }) l.i c.observe-room.ensures l.invariant.4,
-      count_next (is_plain c.parse-token.result) l.count l.i listed.0 l.invariant.5,
-      gather-next ks p o row (record { noted = record { table = a.table.now; room = 0 }; from = a.from.now; to = a.to.now; count = 0 }) l.i l.invariant.6 token c.accounts-accounts.ensures c.observe-room.ensures listed.0 listed.1.0 listed.1.1,
+      count_next (is_plain c.parse-token.result) l.count l.i listed.value l.invariant.5,
+      gather-next ks p o row (record { noted = record { table = a.table.now; room = 0 }; from = a.from.now; to = a.to.now; count = 0 }) l.i l.invariant.6 token c.accounts-accounts.ensures c.observe-room.ensures listed.value listed.from_after listed.to_after,
       program-next ks p o l.i few filled program number c.loop-i-test.true a.programs.now l.invariant.7,
     )
 
@@ -102,4 +102,4 @@ returns c =
     let l = c.loop-i in
     let a = c.args in
     let n : l.i ≡ length a.at.now = omega arith in
-    (rw n at l.invariant.6, programs-all a.keys.now a.pack.now a.at.now a.programs.now n l.invariant.7)
+    record { to_value = rw n at l.invariant.6; programs_after = programs-all a.keys.now a.pack.now a.at.now a.programs.now n l.invariant.7 }

@@ -16,7 +16,7 @@ use Rattle.mints.proofs.notes.list.Goals as goal
 pub returns-then-not-is_plain : goal.returns-then-not-is_plain
 returns-then-not-is_plain c =
     let e : is_plain c.args.token ≡ false = sym c.is_plain.ensures ∙ c.if-not-is_plain.true in
-    rw e (refl, (refl, refl))
+    rw e (record { value = refl; from_after = refl; to_after = refl })
 
 pub overflow_cast-from : goal.overflow_cast-from
 overflow_cast-from c =
@@ -34,4 +34,4 @@ pub returns : goal.returns
 returns c =
     let a = c.args in
     let e : is_plain a.token ≡ true = sym c.is_plain.ensures ∙ c.if-not-is_plain.false in
-    rw (e, c.account_row.ensures, c.account_row-2.ensures, add-one a.count) (refl, (refl, refl))
+    rw (e, c.account_row.ensures, c.account_row-2.ensures, add-one a.count) (record { value = refl; from_after = refl; to_after = refl })

@@ -38,7 +38,7 @@ loop-i-preserved c =
     let q = c.note-room.ensures in
     let w : l.i * 36 + 36 - (l.i * 36 + 4) ≡ 32 = omega arith in (
       omega arith,
-      c.note-room.auto.0 ∙ l.invariant.1,
+      c.note-room.auto.table ∙ l.invariant.1,
       omega (arith, q.1, one-new l.table row_of.result (take (l.i * 36 + 36 - (l.i * 36 + 4)) (drop (l.i * 36 + 4) a.balances.now))),
       rw (q.0, q.1, row_of.ensures, c.u32_at.ensures, w) (balance-next a.balances.now a.row.now a.table.now l.i l.invariant.3),
     )

@@ -12,7 +12,7 @@ use Rattle.wire.proofs.u32_at.Reads as u32-at-reads
 use Rattle.mints.proofs.notes.note_balances.Given as goal
 
 abbrev pub invariant-loop-i : goal.invariant-loop-i
-invariant-loop-i l = (l.i ≤ length l.balances / 36) × (length l.table ≡ length l.initial.table) × (l.room ≤ l.i) × (balances_to l.balances l.row l.initial.table l.i ≡ record { l.table = l.table; l.room = l.room })
+invariant-loop-i l = (l.i ≤ length l.balances / 36) × (length l.table ≡ length l.initial.table) × (l.room ≤ l.i) × (balances_to l.balances l.row l.initial.table l.i ≡ record { table = l.table; room = l.room })
 
 abbrev pub decreases-loop-i : goal.decreases-loop-i
 decreases-loop-i l = length l.balances / 36 - l.i

@@ -15,7 +15,7 @@ pub note_account-requires-in-Checked : goal.note_account-requires-in-Checked
 note_account-requires-in-Checked c =
     let note-account = c.note_account-n in
     let a = c.args in
-    let k : length note-account.new.1.1.1.0 ≡ length a.table.now = note-account.auto.1.1.1.0 in (
+    let k : length note-account.new.table ≡ length a.table.now = note-account.auto.table in (
       omega (arith, ap (λ (x : Noted). x.room) note-account.ensures, one_more (key_of a.keys.now) a.row.now a.accounts.now (record { table = a.table.now; room = a.room }) 0),
       λ i. rw k (c.requires.1 i),
     )
@@ -24,7 +24,7 @@ pub note_account-requires-in-WithFee : goal.note_account-requires-in-WithFee
 note_account-requires-in-WithFee c =
     let note-account = c.note_account-n-in-WithFee in
     let a = c.args in
-    let k : length note-account.new.1.1.1.0 ≡ length a.table.now = note-account.auto.1.1.1.0 in (
+    let k : length note-account.new.table ≡ length a.table.now = note-account.auto.table in (
       omega (arith, ap (λ (x : Noted). x.room) note-account.ensures, one_more (key_of a.keys.now) a.row.now a.accounts.now (record { table = a.table.now; room = a.room }) 0),
       λ i. rw k (c.requires.1 i),
     )

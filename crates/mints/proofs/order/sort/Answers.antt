@@ -40,7 +40,7 @@ loop-next-preserved c =
     let e = sort-next t l.next c.if-table-r-le1.false in
     let n = put-length (sort_to t l.next) (spot_in t l.next (sort_to t l.next)) l.next (spot-bound t l.next (sort_to t l.next)) in (
       omega arith,
-      c.insert.auto.0 ∙ l.invariant.1,
+      c.insert.auto.order ∙ l.invariant.1,
       omega arith,
       rw (e, n, ← l.invariant.3) (add-one l.k),
       rw (add-one l.k, e) (c.insert.ensures ∙ rw (c.spot-j.ensures, l.invariant.4)),

@@ -29,9 +29,9 @@ overflow_add-y c =
     let turn = c.loop-low in
     omega (arith, fit_at c.args.table.now c.args.order.now c.args.k ((turn.low + turn.high) / 2) (omega arith) c.requires.2)
 
-pub UNKNOWN-slice-bounds-less-end-2 : goal.UNKNOWN-slice-bounds-less-end-2
-UNKNOWN-slice-bounds-less-end-2 c =
-    let turn = c.loop in
+pub slice_bounds-less-end-in-loop-low : goal.slice_bounds-less-end-in-loop-low
+slice_bounds-less-end-in-loop-low c =
+    let turn = c.loop-low in
     omega (arith, fit_at c.args.table.now c.args.order.now c.args.k ((turn.low + turn.high) / 2) (omega arith) c.requires.2)
 
 pub loop-low-preserved-then-less : goal.loop-low-preserved-then-less

@@ -30,7 +30,7 @@ loop-i-preserved c =
     let l = c.loop-i in
     let a = c.args in (
       omega arith,
-      c.write_mint.auto.1.1.1.0 ∙ l.invariant.1,
+      c.write_mint.auto.out ∙ l.invariant.1,
       c.write_mint.ensures ∙ rw (l.invariant.2, add-one l.i) (sets-next a.out.now 0 (mints_to a.table.now a.row.now l.i) (shown_mint a.table.now (get_or a.row.now l.i 0)) (l.i * 32) (omega (arith, mints-length a.table.now a.row.now l.i c.requires.2))),
     )
 

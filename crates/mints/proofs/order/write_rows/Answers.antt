@@ -53,7 +53,7 @@ loop-j-preserved c =
     let p = simp add-sub_cancel_left at put.ensures in
     let w = rows-length a.table.now o (fits-take a.table.now a.order.now l.j a.k (omega arith) c.requires.0 c.requires.2) in (
       omega arith,
-      c.put_byte.auto.0 ∙ put.auto.0 ∙ l.invariant.1,
+      c.put_byte.auto.d ∙ put.auto.d ∙ l.invariant.1,
       c.put_byte.ensures ∙ rw (p, c.mark_of.ensures, row_put l.out a.table.now (l.j * mint_width) r (fit_at a.table.now a.order.now a.k l.j (omega arith) c.requires.2), l.invariant.2, rows_next a.table.now a.order.now l.j (omega (arith, c.requires.0))) (sets-next a.out.now 0 (rows_bytes a.table.now o) (row_bytes a.table.now r) (l.j * mint_width) (omega (arith, w, length-take-le l.j a.order.now (omega (arith, c.requires.0))))),
     )
 

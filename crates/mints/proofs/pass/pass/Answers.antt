@@ -36,7 +36,7 @@ loop-i-preserved c =
     let a = c.args in
     let q = c.step-added.ensures in (
       omega arith,
-      c.step-added.auto.0 ∙ l.invariant.1,
+      c.step-added.auto.table ∙ l.invariant.1,
       omega (arith, q.1, one-filled l.table (get_or a.from.now l.i 0) (get_or a.to.now l.i 0)),
       rw (q.0, q.1) (pass-next a.from.now a.to.now a.table.now l.i l.invariant.3),
     )

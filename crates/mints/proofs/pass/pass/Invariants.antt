@@ -10,7 +10,7 @@ use Rattle.mints.proofs.pass.step.Reads as step-reads
 use Rattle.mints.proofs.pass.pass.Given as goal
 
 abbrev pub invariant-loop-i : goal.invariant-loop-i
-invariant-loop-i l = (l.i ≤ l.n) × (length l.table ≡ length l.initial.table) × (l.added ≤ l.i) × (pass_to l.from l.to l.initial.table l.i ≡ record { l.table = l.table; room = l.added })
+invariant-loop-i l = (l.i ≤ l.n) × (length l.table ≡ length l.initial.table) × (l.added ≤ l.i) × (pass_to l.from l.to l.initial.table l.i ≡ record { table = l.table; room = l.added })
 
 abbrev pub decreases-loop-i : goal.decreases-loop-i
 decreases-loop-i l = l.n - l.i

@@ -26,7 +26,7 @@ pass-added-requires c =
     (p.0, p.1, λ i. rw l.invariant.1 (p.2 i), λ i. rw l.invariant.1 (p.3 i))
 
 pub shape_of-table-then-added-eq0 : goal.shape_of-table-then-added-eq0
-shape_of-table-then-added-eq0 c = c.pass-added.auto.0 ∙ c.loop-p.invariant.1
+shape_of-table-then-added-eq0 c = c.pass-added.auto.table ∙ c.loop-p.invariant.1
 
 pub returns-then-added-eq0 : goal.returns-then-added-eq0
 returns-then-added-eq0 c =
@@ -49,7 +49,7 @@ loop-p-preserved c =
     let a = c.args in
     let q = pass.ensures in (
       omega arith,
-      pass.auto.0 ∙ l.invariant.1,
+      pass.auto.table ∙ l.invariant.1,
       omega (arith, ap (λ (x : Noted). x.room) q, filled-bound a.from.now a.to.now l.table a.n),
       rw q at (passes-next a.from.now a.to.now a.n l.table l.room l.p (omega arith) (λ e. c.if-added-eq0.false (sym (ap (λ (x : Noted). x.room) q) ∙ e)) ∙ l.invariant.3),
     )

@@ -8,7 +8,7 @@ use Rattle.wire.proofs.put.Reads as put_reads
 use Rattle.mints.proofs.table.add.Goals as goal
 
 pub returns-then-r-rows : goal.returns-then-r-rows
-returns-then-r-rows c = simp (eq-eqb _ _ c.if-r-rows.true, c.put.ensures, add-one) (refl, refl)
+returns-then-r-rows c = simp (eq-eqb _ _ c.if-r-rows.true, c.put.ensures, add-one) (record { table_after = refl; value = refl })
 
 pub returns : goal.returns
-returns c = simp (ne_eqb _ _ c.if-r-rows.false) (refl, refl)
+returns c = simp (ne_eqb _ _ c.if-r-rows.false) (record { table_after = refl; value = refl })

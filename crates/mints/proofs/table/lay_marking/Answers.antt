@@ -55,16 +55,16 @@ loop-i-preserved c =
     let l = c.loop-i in
     let a = c.args in
     let q = add.ensures in
-    let k : length add.new.0 ≡ length l.table = add.auto.0 in
+    let k : length add.new.table ≡ length l.table = add.auto.table in
     let key = c.key-key in (
       omega arith,
       k ∙ l.invariant.1,
       simp length-set l.invariant.2,
-      omega (arith, q.1, one-row row-for.result l.rows),
+      omega (arith, q.value, one-row row-for.result l.rows),
       omega (arith, k, l.invariant.4),
-      lay-next (key_of a.keys.now) _ a.row.now l.i (record { table = l.table; row = l.row; rows = l.rows }) l.invariant.5 key.ensures row-for.ensures q.0 q.1,
+      lay-next (key_of a.keys.now) _ a.row.now l.i (record { table = l.table; row = l.row; rows = l.rows }) l.invariant.5 key.ensures row-for.ensures q.table_after q.value,
       simp length-set l.invariant.6,
-      ends_more l.table key.result.now l.ends l.rows row-for.result l.invariant.7 (ap length key.ensures ∙ key-length a.keys.now l.i) (omega arith) c.byte-in-loop-i.ensures (omega (arith, l.invariant.6)) q.0 q.1,
+      ends_more l.table key.result.now l.ends l.rows row-for.result l.invariant.7 (ap length key.ensures ∙ key-length a.keys.now l.i) (omega arith) c.byte-in-loop-i.ensures (omega (arith, l.invariant.6)) q.table_after q.value,
     )
 
 pub shape_of-table : goal.shape_of-table

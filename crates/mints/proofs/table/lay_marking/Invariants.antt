@@ -18,7 +18,7 @@ use Rattle.mints.specs.Bytes.{mint_width}
 use Rattle.mints.proofs.table.lay_marking.Given as goal
 
 abbrev pub invariant-loop-i : goal.invariant-loop-i
-invariant-loop-i l = (l.i ≤ key_count l.keys) × (length l.table ≡ length l.initial.table) × (length l.row ≡ length l.initial.row) × (l.rows ≤ suc l.i) × (suc (key_count l.keys) * mint_width ≤ length l.table) × (lay_to (key_of l.keys) l.initial.table l.initial.row l.i ≡ record { l.table = l.table; l.row = l.row; l.rows = l.rows }) × (length l.ends ≡ 256) × LastBytesSeen l.table l.rows l.ends
+invariant-loop-i l = (l.i ≤ key_count l.keys) × (length l.table ≡ length l.initial.table) × (length l.row ≡ length l.initial.row) × (l.rows ≤ suc l.i) × (suc (key_count l.keys) * mint_width ≤ length l.table) × (lay_to (key_of l.keys) l.initial.table l.initial.row l.i ≡ record { table = l.table; row = l.row; rows = l.rows }) × (length l.ends ≡ 256) × LastBytesSeen l.table l.rows l.ends
 
 abbrev pub decreases-loop-i : goal.decreases-loop-i
 decreases-loop-i l = key_count l.keys - l.i
