@@ -52,7 +52,7 @@ overflow_add-recorded c =
     let few : key_count ks ≤ 256 = omega (arith, c.requires.0) in
     let rows = laid-is ks a.table.now a.row.now c.requires.2 c.requires.3 c.lay-rows.ensures in
     let e = gathered-is ks a.balances.now a.pack.now a.at.now rows c.note_balances-recorded.ensures c.gather-g.ensures.to_value in
-    omega (arith, noted-few ks a.balances.now a.pack.now a.at.now few c.requires.1 e (omega (arith, c.well-formed.1.0)))
+    omega (arith, noted-few ks a.balances.now a.pack.now a.at.now few c.requires.1 e (omega arith))
 
 pub hand_on-ran-requires : goal.hand_on-ran-requires
 hand_on-ran-requires c =
@@ -65,7 +65,7 @@ hand_on-ran-requires c =
     let k = counted ks a.balances.now a.pack.now a.at.now few c.requires.1 e in record {
       n_bound = (
         k.0,
-        noted-few ks a.balances.now a.pack.now a.at.now few c.requires.1 e (omega (arith, c.well-formed.1.0)),
+        noted-few ks a.balances.now a.pack.now a.at.now few c.requires.1 e (omega arith),
         rw rows at fit,
         rw rows at (rows_long ks a.balances.now a.pack.now a.at.now few c.requires.1 e),
       );
