@@ -28,7 +28,7 @@ unfolding gather_to
 loop-i-init c = (omega arith, refl, refl, refl, omega arith, omega arith, refl, refl)
 
 pub overflow_cast-o : goal.overflow_cast-o
-overflow_cast-o c = omega (arith, c.shared_slice_known-in-loop-i-1.given c.loop-i.i)
+overflow_cast-o c = omega arith
 
 pub bounds-programs-i : goal.bounds-programs-i
 bounds-programs-i c = omega (arith, c.requires.at_in_bounds.2)

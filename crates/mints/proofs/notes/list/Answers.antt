@@ -22,13 +22,13 @@ pub overflow_cast-from : goal.overflow_cast-from
 overflow_cast-from c =
     let a = c.args in
     let x = a.accounts.now in
-    omega (arith, c.account_row.ensures, row_kept a.row.now x 0, c.shared_slice_known-2-1.given (get_or x 0 0))
+    omega (arith, c.account_row.ensures, row_kept a.row.now x 0, c.type_inv.row (get_or x 0 0))
 
 pub overflow_cast-to : goal.overflow_cast-to
 overflow_cast-to c =
     let a = c.args in
     let x = a.accounts.now in
-    omega (arith, c.account_row-2.ensures, row_kept a.row.now x 1, c.shared_slice_known-2-1.given (get_or x 1 0))
+    omega (arith, c.account_row-2.ensures, row_kept a.row.now x 1, c.type_inv.row (get_or x 1 0))
 
 pub returns : goal.returns
 returns c =

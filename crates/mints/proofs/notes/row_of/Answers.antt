@@ -7,7 +7,7 @@ use Rattle.mints.proofs.notes.row_of.Reads as reads
 use Rattle.mints.proofs.notes.row_of.Goals as goal
 
 pub overflow_cast-result : goal.overflow_cast-result
-overflow_cast-result c = omega (arith, c.shared_slice_known-1.given c.args.index)
+overflow_cast-result c = omega arith
 
 pub returns-else-index-row : goal.returns-else-index-row
 returns-else-index-row c = sym (get_or-eq_default c.args.row.now 0 c.if-index-row.false)

@@ -18,7 +18,7 @@ loop-low-init c =
     (refl, omega arith, omega arith, omega (arith, spot-bound a.table.now a.r (take a.k a.order.now), length-take-le a.k a.order.now c.requires.0))
 
 pub overflow_cast-y : goal.overflow_cast-y
-overflow_cast-y c = omega (arith, c.shared_slice_known-in-loop-low-1.given ((c.loop-low.low + c.loop-low.high) / 2))
+overflow_cast-y c = omega arith
 
 pub overflow_mul-y : goal.overflow_mul-y
 overflow_mul-y c =

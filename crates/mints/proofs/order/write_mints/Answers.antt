@@ -17,7 +17,7 @@ unfolding mints_to
 loop-i-init c = (omega arith, refl, refl)
 
 pub overflow_cast-row : goal.overflow_cast-row
-overflow_cast-row c = omega (arith, c.shared_slice_known-in-loop-i-1.given c.loop-i.i)
+overflow_cast-row c = omega arith
 
 pub write_mint-requires : goal.write_mint-requires
 write_mint-requires c =

@@ -21,7 +21,7 @@ unfolding rows_bytes
 loop-j-init c = (omega arith, refl, refl)
 
 pub overflow_cast-x : goal.overflow_cast-x
-overflow_cast-x c = omega (arith, c.shared_slice_known-in-loop-j-1.given c.loop-j.j)
+overflow_cast-x c = omega arith
 
 pub overflow_mul-x : goal.overflow_mul-x
 overflow_mul-x c =

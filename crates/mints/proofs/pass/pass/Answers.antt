@@ -14,10 +14,10 @@ unfolding pass_to
 loop-i-init c = (omega arith, refl, omega arith, refl)
 
 pub overflow_cast-from : goal.overflow_cast-from
-overflow_cast-from c = omega (arith, c.shared_slice_known-in-loop-i-1.given c.loop-i.i)
+overflow_cast-from c = omega arith
 
 pub overflow_cast-to : goal.overflow_cast-to
-overflow_cast-to c = omega (arith, c.shared_slice_known-in-loop-i-2-1.given c.loop-i.i)
+overflow_cast-to c = omega arith
 
 pub step-added-requires : goal.step-added-requires
 step-added-requires c =
