@@ -9,12 +9,6 @@ use lib.ListN.{length, length-replicate}
 use Prim.Native.Nat.{ℕ, ◌*◌, ◌≤◌}
 use mathlib.Core.Path.{◌≡◌, ap, ◌∙◌}
 use native.Mathlib.Omega.{arith}
-use borrow.Author.Rules.{rules}
-use Rattle.mints.proofs.conclude.Reads as reads
-use Rattle.mints.proofs.notes.gather.Reads as gather-reads
-use Rattle.mints.proofs.notes.note_balances.Reads as note-balances-reads
-use Rattle.mints.proofs.doubt.hand_on.Reads as hand-on-reads
-use Rattle.mints.proofs.table.lay.Reads as lay-reads
 use Rattle.mints.proofs.conclude.Goals as goal
 
 pub lay-rows-requires : goal.lay-rows-requires

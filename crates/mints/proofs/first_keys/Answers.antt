@@ -1,8 +1,6 @@
 -- A shorter section is all of its own first bytes.
 use lib.Seq.{take_all}
 use mathlib.Core.Path.{sym}
-use borrow.Author.Rules.{rules}
-use Rattle.mints.proofs.first_keys.Reads as reads
 use Rattle.mints.proofs.first_keys.Goals as goal
 
 pub returns-else-keys-gt8448 : goal.returns-else-keys-gt8448

@@ -1,8 +1,6 @@
 -- A shorter list is all of its own first offsets.
 use lib.Seq.{take_all}
 use mathlib.Core.Path.{sym}
-use borrow.Author.Rules.{rules}
-use Rattle.mints.proofs.first_offsets.Reads as reads
 use Rattle.mints.proofs.first_offsets.Goals as goal
 
 pub returns-else-at-gt1024 : goal.returns-else-at-gt1024

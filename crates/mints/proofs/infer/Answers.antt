@@ -8,13 +8,6 @@ use lib.ListN.{length, length-take}
 use Prim.Native.Nat.{◌*◌, ◌≤◌}
 use mathlib.Core.Path.{◌≡◌, refl, sym, ap, ◌∙◌}
 use native.Mathlib.Omega.{arith}
-use borrow.Author.Rules.{rules}
-use Rattle.mints.proofs.infer.Reads as reads
-use Rattle.ids.proofs.key_count.Reads as key-count-reads
-use Rattle.mints.proofs.conclude.Reads as conclude-reads
-use Rattle.mints.proofs.first_keys.Reads as first-keys-reads
-use Rattle.mints.proofs.first_offsets.Reads as first-offsets-reads
-use Rattle.mints.proofs.publish.Reads as publish-reads
 use Rattle.mints.proofs.infer.Goals as goal
 
 pub conclude-done-requires : goal.conclude-done-requires

@@ -3,11 +3,6 @@ use Rattle.mints.proofs.Sorting.{sort-fits, sort-length}
 use lib.ListN.{length}
 use mathlib.Core.Path.{◌≡◌, ◌∙◌}
 use native.Mathlib.Omega.{arith}
-use borrow.Author.Rules.{rules}
-use Rattle.mints.proofs.publish.Reads as reads
-use Rattle.mints.proofs.order.sort.Reads as sort-reads
-use Rattle.mints.proofs.order.write_mints.Reads as write-mints-reads
-use Rattle.mints.proofs.order.write_rows.Reads as write-rows-reads
 use Rattle.mints.proofs.publish.Goals as goal
 
 pub write_rows-requires : goal.write_rows-requires

@@ -2,9 +2,6 @@
 use Rattle.mints.specs.Doubt.{differ_at}
 use native.Mathlib.Nat.{add-sub_cancel_left}
 use borrow.Author.Tests.{lt-ltb, le-ltb}
-use borrow.Author.Rules.{rules}
-use Rattle.mints.proofs.doubt.differ.Reads as reads
-use Rattle.wire.proofs.equal.Reads as equal-reads
 use Rattle.mints.proofs.doubt.differ.Goals as goal
 
 pub returns-then-table-a-le1 : goal.returns-then-table-a-le1

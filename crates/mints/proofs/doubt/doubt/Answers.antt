@@ -2,8 +2,6 @@
 use Rattle.mints.specs.Doubt.{doubt_at}
 use Rattle.mints.specs.Cells.{with_state}
 use borrow.Author.Tests.{eq-eqb, ne_eqb}
-use borrow.Author.Rules.{rules}
-use Rattle.mints.proofs.doubt.doubt.Reads as reads
 use Rattle.mints.proofs.doubt.doubt.Goals as goal
 
 pub returns-then-table-r-eq3 : goal.returns-then-table-r-eq3

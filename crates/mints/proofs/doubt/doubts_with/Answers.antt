@@ -1,11 +1,6 @@
 -- The labels are set over fresh ones of the same number, and the marks by them; both keep their lengths.
 use lib.ListN.{length}
 use mathlib.Core.Path.{◌≡◌, ◌∙◌}
-use borrow.Author.Rules.{rules}
-use Rattle.mints.proofs.doubt.doubts_with.Reads as reads
-use Rattle.mints.proofs.doubt.label_apart.Reads as label-apart-reads
-use Rattle.mints.proofs.doubt.mark.Reads as mark-reads
-use Rattle.mints.proofs.doubt.meet_all.Reads as meet-all-reads
 use Rattle.mints.proofs.doubt.doubts_with.Goals as goal
 
 pub meet_all-requires : goal.meet_all-requires

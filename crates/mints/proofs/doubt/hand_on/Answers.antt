@@ -4,10 +4,6 @@ use lib.ListN.{length, length-take}
 use Prim.Native.Nat.{ℕ}
 use mathlib.Core.Path.{◌≡◌, ap, ◌∙◌}
 use native.Mathlib.Omega.{arith}
-use borrow.Author.Rules.{rules}
-use Rattle.mints.proofs.doubt.hand_on.Reads as reads
-use Rattle.mints.proofs.doubt.doubts_with.Reads as doubts-with-reads
-use Rattle.mints.proofs.pass.run.Reads as run-reads
 use Rattle.mints.proofs.doubt.hand_on.Goals as goal
 
 pub run-ran-requires : goal.run-ran-requires

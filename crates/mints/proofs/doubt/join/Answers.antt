@@ -1,9 +1,6 @@
 -- The test is the definition's, and each way leaves the labels that its call leaves.
 use Rattle.mints.specs.Doubt.{join_at}
 use borrow.Author.Tests.{lt-ltb, le-ltb}
-use borrow.Author.Rules.{rules}
-use Rattle.mints.proofs.doubt.join.Reads as reads
-use Rattle.mints.proofs.doubt.relabel.Reads as relabel-reads
 use Rattle.mints.proofs.doubt.join.Goals as goal
 
 pub returns-then-x-y : goal.returns-then-x-y

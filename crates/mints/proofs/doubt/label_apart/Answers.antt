@@ -3,12 +3,11 @@ use Rattle.mints.proofs.Labelling.{own-more}
 use Rattle.mints.specs.Doubt.{own_labels}
 use Rattle.wire.proofs.Sets.{sets-whole}
 use Rattle.wire.proofs.Tab.{tab-length}
-use lib.Seq.{sets, take_all}
-use lib.ListN.{length, take, length-set}
-use Prim.Native.Nat.{ℕ, ◌-◌, ◌≤◌}
+use lib.Seq.{take_all}
+use lib.ListN.{length, length-set}
+use Prim.Native.Nat.{ℕ}
 use mathlib.Core.Path.{◌≡◌, refl, ◌∙◌}
 use native.Mathlib.Omega.{arith}
-use Rattle.mints.proofs.doubt.label_apart.Reads as reads
 use Rattle.mints.proofs.doubt.label_apart.Goals as goal
 
 pub loop-r-init : goal.loop-r-init

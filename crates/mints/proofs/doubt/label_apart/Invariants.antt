@@ -1,14 +1,9 @@
 -- Each turn writes one label more, and the last leaves none of the old ones.
-use Rattle.mints.proofs.Labelling.{own-more}
 use Rattle.mints.specs.Doubt.{own_labels}
-use Rattle.wire.proofs.Sets.{sets-whole}
-use Rattle.wire.proofs.Tab.{tab-length}
-use lib.Seq.{sets, take_all}
-use lib.ListN.{length, take, length-set}
-use Prim.Native.Nat.{ℕ, ◌-◌, ◌≤◌}
-use mathlib.Core.Path.{◌≡◌, refl, ◌∙◌}
-use native.Mathlib.Omega.{arith}
-use Rattle.mints.proofs.doubt.label_apart.Reads as reads
+use lib.Seq.{sets}
+use lib.ListN.{length, take}
+use Prim.Native.Nat.{◌-◌, ◌≤◌}
+use mathlib.Core.Path.{◌≡◌}
 use Rattle.mints.proofs.doubt.label_apart.Given as goal
 
 abbrev pub invariant-loop-r : goal.invariant-loop-r

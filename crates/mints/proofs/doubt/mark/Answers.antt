@@ -2,11 +2,8 @@
 use Rattle.mints.proofs.Labelling.{mark-skip, mark-next}
 use Rattle.mints.specs.Doubt.{marks_to}
 use lib.ListN.{length}
-use Prim.Native.Nat.{◌-◌, ◌≤◌}
 use mathlib.Core.Path.{◌≡◌, refl, ◌∙◌}
 use native.Mathlib.Omega.{arith}
-use Rattle.mints.proofs.doubt.mark.Reads as reads
-use Rattle.mints.proofs.doubt.doubt.Reads as doubt-reads
 use Rattle.mints.proofs.doubt.mark.Goals as goal
 
 pub loop-next-init : goal.loop-next-init

@@ -1,12 +1,8 @@
 -- Each turn marks one row more; marks keep the length, so that the rows go on fitting.
-use Rattle.mints.proofs.Labelling.{mark-skip, mark-next}
 use Rattle.mints.specs.Doubt.{marks_to}
 use lib.ListN.{length}
 use Prim.Native.Nat.{◌-◌, ◌≤◌}
-use mathlib.Core.Path.{◌≡◌, refl, ◌∙◌}
-use native.Mathlib.Omega.{arith}
-use Rattle.mints.proofs.doubt.mark.Reads as reads
-use Rattle.mints.proofs.doubt.doubt.Reads as doubt-reads
+use mathlib.Core.Path.{◌≡◌}
 use Rattle.mints.proofs.doubt.mark.Given as goal
 
 abbrev pub invariant-loop-next : goal.invariant-loop-next

@@ -2,11 +2,6 @@
 use Rattle.mints.specs.Doubt.{meet_at}
 use mathlib.Core.Path.{sym, ◌∙◌}
 use borrow.Author.Tests.{eq-eqb, ne_eqb}
-use borrow.Author.Rules.{rules}
-use Rattle.mints.proofs.doubt.meet.Reads as reads
-use Rattle.mints.proofs.doubt.differ.Reads as differ-reads
-use Rattle.mints.proofs.doubt.join.Reads as join-reads
-use Rattle.mints.proofs.doubt.suspect.Reads as suspect-reads
 use Rattle.mints.proofs.doubt.meet.Goals as goal
 
 pub returns-then-differ : goal.returns-then-differ

@@ -1,12 +1,8 @@
 -- Each turn walks one transfer more; the labels keep their length, so row numbers go on fitting.
 use Rattle.mints.proofs.Labelling.{meet-next}
 use Rattle.mints.specs.Doubt.{labels_to}
-use lib.ListN.{length}
-use Prim.Native.Nat.{◌-◌, ◌≤◌}
 use mathlib.Core.Path.{◌≡◌, refl, ◌∙◌}
 use native.Mathlib.Omega.{arith}
-use Rattle.mints.proofs.doubt.meet_all.Reads as reads
-use Rattle.mints.proofs.doubt.meet.Reads as meet-reads
 use Rattle.mints.proofs.doubt.meet_all.Goals as goal
 
 pub loop-i-init : goal.loop-i-init

@@ -2,14 +2,10 @@
 use Rattle.mints.proofs.Labelling.{relabelled-none, relabelled-more, relabelled-length}
 use Rattle.mints.specs.Doubt.{relabelled}
 use Rattle.wire.proofs.Sets.{sets-whole}
-use lib.Seq.{sets, take_all}
-use lib.ListN.{length, take, length-set}
-use Prim.Native.Nat.{◌-◌, ◌≤◌}
+use lib.Seq.{take_all}
+use lib.ListN.{length, length-set}
 use mathlib.Core.Path.{◌≡◌, refl, sym, ◌∙◌}
 use native.Mathlib.Omega.{arith}
-use borrow.Author.Rules.{rules}
-use Rattle.mints.proofs.doubt.relabel.Reads as reads
-use Rattle.mints.proofs.doubt.rename.Reads as rename-reads
 use Rattle.mints.proofs.doubt.relabel.Goals as goal
 
 pub returns-then-x-y : goal.returns-then-x-y

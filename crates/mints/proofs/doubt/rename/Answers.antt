@@ -1,7 +1,6 @@
 -- The test is the definition's.
 use Rattle.mints.specs.Doubt.{renamed}
 use borrow.Author.Tests.{eq-eqb, ne_eqb}
-use Rattle.mints.proofs.doubt.rename.Reads as reads
 use Rattle.mints.proofs.doubt.rename.Goals as goal
 
 pub returns-then-z-x : goal.returns-then-z-x

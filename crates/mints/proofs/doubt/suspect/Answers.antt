@@ -1,9 +1,6 @@
 -- The test is the definition's, and a row that is filled in leaves the labels that the call leaves.
 use Rattle.mints.specs.Doubt.{suspect_at}
 use borrow.Author.Tests.{eq-eqb, ne_eqb}
-use borrow.Author.Rules.{rules}
-use Rattle.mints.proofs.doubt.suspect.Reads as reads
-use Rattle.mints.proofs.doubt.relabel.Reads as relabel-reads
 use Rattle.mints.proofs.doubt.suspect.Goals as goal
 
 pub returns-then-table-r-ne3 : goal.returns-then-table-r-ne3

@@ -1,9 +1,5 @@
 -- An account index inside the list is looked up among the keys, any other is the stand-in, as the definition tests it.
 use borrow.Author.Tests.{lt-ltb, le-ltb}
-use borrow.Author.Rules.{rules}
-use Rattle.mints.proofs.notes.account_key.Reads as reads
-use Rattle.ids.proofs.key.Reads as key_reads
-use Rattle.wire.proofs.byte.Reads as byte-Reads
 use Rattle.mints.proofs.notes.account_key.Goals as goal
 
 pub returns-then-i-accounts : goal.returns-then-i-accounts

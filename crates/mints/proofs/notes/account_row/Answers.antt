@@ -1,10 +1,6 @@
 -- An account index inside the list is looked up in `row`, any other is row 0, as the definition tests it.
 use borrow.Author.Tests.{lt-ltb, le-ltb}
 use Rattle.mints.specs.Gather.{row_of_account}
-use borrow.Author.Rules.{rules}
-use Rattle.mints.proofs.notes.account_row.Reads as reads
-use Rattle.mints.proofs.notes.row_of.Reads as row-of-reads
-use Rattle.wire.proofs.byte.Reads as byte-Reads
 use Rattle.mints.proofs.notes.account_row.Goals as goal
 
 pub returns-then-i-accounts : goal.returns-then-i-accounts

@@ -1,26 +1,11 @@
 -- Each turn reads one instruction more: another program's changes nothing, a token program's is noted and listed as the definition says, and counts grow by
 -- at most two and one.
-use Rattle.mints.proofs.Gathering.{program-next, programs-all, token-is, gather-pass, gather-next, room_next, count_next}
-use Rattle.mints.specs.Gather.{is_plain, Gathered, gather_to}
+use Rattle.mints.specs.Gather.{gather_to}
 use Rattle.mints.specs.Programs.{programs_of}
-use borrow.Author.Tests.{not-true}
-use borrow.Author.Rules.{rules}
 use lib.ListN.{length, take}
 use lib.Seq.{sets}
 use Prim.Native.Nat.{◌*◌, ◌-◌, ◌≤◌}
-use mathlib.Core.Path.{◌≡◌, refl, sym, ◌∙◌}
-use native.Mathlib.Omega.{arith}
-use Rattle.mints.proofs.notes.gather.Reads as reads
-use Rattle.ids.proofs.programs.fill.Reads as fill-reads
-use Rattle.ids.proofs.programs.number.Reads as number-reads
-use Rattle.ids.proofs.of_number.Reads as of-number-reads
-use Rattle.mints.proofs.notes.list.Reads as list-reads
-use Rattle.mints.proofs.notes.observe.Reads as observe-reads
-use Rattle.pack.proofs.accounts.Reads as accounts-reads
-use Rattle.pack.proofs.data.Reads as data_Reads
-use Rattle.pack.proofs.program.Reads as program-reads
-use Rattle.token.proofs.parse.Reads as parse-reads
-use Rattle.token.proofs.token_program.Reads as token-program-reads
+use mathlib.Core.Path.{◌≡◌}
 use Rattle.mints.proofs.notes.gather.Given as goal
 
 abbrev pub invariant-loop-i : goal.invariant-loop-i

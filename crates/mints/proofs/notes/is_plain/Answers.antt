@@ -1,7 +1,5 @@
 -- The match has the definition's five cases.
 use Rattle.mints.specs.Gather.{is_plain}
-use borrow.Author.Rules.{rules}
-use Rattle.mints.proofs.notes.is_plain.Reads as reads
 use Rattle.mints.proofs.notes.is_plain.Goals as goal
 
 pub returns-in-Plain : goal.returns-in-Plain

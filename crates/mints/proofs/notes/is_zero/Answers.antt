@@ -1,8 +1,5 @@
 -- The array that the mint is compared with is the zero key.
 use Rattle.ids.specs.Keys.{zero_key}
-use borrow.Author.Rules.{rules}
-use Rattle.mints.proofs.notes.is_zero.Reads as reads
-use Rattle.wire.proofs.equal.Reads as equal-reads
 use Rattle.mints.proofs.notes.is_zero.Goals as goal
 
 pub returns : goal.returns

@@ -3,14 +3,9 @@ use Rattle.mints.specs.Gather.{is_plain}
 use Rattle.mints.proofs.Search.{row_kept}
 use lib.ListN.{get_or}
 use native.Mathlib.Numerals.{add-one}
-use borrow.Author.Tests.{not-true, not-false}
 use mathlib.Core.Bool.{true, false}
 use mathlib.Core.Path.{◌≡◌, refl, sym, ◌∙◌}
 use native.Mathlib.Omega.{arith}
-use borrow.Author.Rules.{rules}
-use Rattle.mints.proofs.notes.list.Reads as reads
-use Rattle.mints.proofs.notes.account_row.Reads as account-row-reads
-use Rattle.mints.proofs.notes.is_plain.Reads as is-plain-reads
 use Rattle.mints.proofs.notes.list.Goals as goal
 
 pub returns-then-not-is_plain : goal.returns-then-not-is_plain

@@ -4,11 +4,6 @@ use Rattle.mints.specs.Cells.{with_mint, with_state}
 use Rattle.mints.proofs.Noting.{note-zero, note-first, note-ambiguous, note-again, note-other}
 use native.Mathlib.Nat.{add-sub_cancel_left}
 use mathlib.Core.Path.{sym, ◌∙◌}
-use borrow.Author.Rules.{rules}
-use Rattle.mints.proofs.notes.note.Reads as reads
-use Rattle.mints.proofs.notes.is_zero.Reads as is-zero-reads
-use Rattle.wire.proofs.equal.Reads as equal-reads
-use Rattle.wire.proofs.put.Reads as put_reads
 use Rattle.mints.proofs.notes.note.Goals as goal
 
 pub returns-then-is_zero : goal.returns-then-is_zero

@@ -8,11 +8,6 @@ use Rattle.ids.specs.Keys.{zero_key, key_of}
 use lib.ListN.{length}
 use mathlib.Core.Path.{ap, ◌∙◌}
 use native.Mathlib.Omega.{arith}
-use borrow.Author.Rules.{rules}
-use Rattle.mints.proofs.notes.note_account.Reads as reads
-use Rattle.mints.proofs.notes.account_key.Reads as account-key-reads
-use Rattle.mints.proofs.notes.account_row.Reads as account-row-reads
-use Rattle.mints.proofs.notes.note.Reads as note-reads
 use Rattle.mints.proofs.notes.note_account.Goals as goal
 
 pub note-requires : goal.note-requires

@@ -1,14 +1,8 @@
 -- Each turn notes one balance row more, and a note records at most one account more, so the count does not overflow.
-use Rattle.mints.proofs.Noting.{one-new, balance-next}
-use Rattle.mints.specs.Note.{note_at, balances_to}
-use lib.ListN.{length, take, drop, length-take, length-drop}
-use Prim.Native.Nat.{◌+◌, ◌*◌, ◌-◌, ◌/◌, ◌≤◌}
-use mathlib.Core.Path.{◌≡◌, refl, ◌∙◌}
-use native.Mathlib.Omega.{arith}
-use Rattle.mints.proofs.notes.note_balances.Reads as reads
-use Rattle.mints.proofs.notes.note.Reads as note-reads
-use Rattle.mints.proofs.notes.row_of.Reads as row-of-reads
-use Rattle.wire.proofs.u32_at.Reads as u32-at-reads
+use Rattle.mints.specs.Note.{balances_to}
+use lib.ListN.{length}
+use Prim.Native.Nat.{◌-◌, ◌/◌, ◌≤◌}
+use mathlib.Core.Path.{◌≡◌}
 use Rattle.mints.proofs.notes.note_balances.Given as goal
 
 abbrev pub invariant-loop-i : goal.invariant-loop-i

@@ -6,9 +6,6 @@ use Rattle.mints.proofs.Noting.{one_more}
 use Rattle.ids.specs.Keys.{key_of}
 use mathlib.Core.Path.{◌≡◌, ap}
 use native.Mathlib.Omega.{arith}
-use borrow.Author.Rules.{rules}
-use Rattle.mints.proofs.notes.observe.Reads as reads
-use Rattle.mints.proofs.notes.note_account.Reads as note-account-reads
 use Rattle.mints.proofs.notes.observe.Goals as goal
 
 pub note_account-requires-in-Checked : goal.note_account-requires-in-Checked

@@ -2,8 +2,6 @@
 use lib.ListN.{get_or-eq_default}
 use mathlib.Core.Path.{sym}
 use native.Mathlib.Omega.{arith}
-use borrow.Author.Rules.{rules}
-use Rattle.mints.proofs.notes.row_of.Reads as reads
 use Rattle.mints.proofs.notes.row_of.Goals as goal
 
 pub overflow_cast-result : goal.overflow_cast-result

@@ -1,11 +1,9 @@
 -- Elements move one place to the right, last first, so each is read before it is written over.
 use Rattle.mints.proofs.Inserting.{shift-more, inserted}
-use lib.Seq.{sets}
-use lib.ListN.{length, take, drop, length-set}
-use Prim.Native.Nat.{◌+◌, ◌-◌, ◌≤◌}
+use lib.ListN.{length-set}
+use Prim.Native.Nat.{◌-◌}
 use mathlib.Core.Path.{◌≡◌, refl}
 use native.Mathlib.Omega.{arith}
-use Rattle.mints.proofs.order.insert.Reads as reads
 use Rattle.mints.proofs.order.insert.Goals as goal
 
 pub loop-i-init : goal.loop-i-init

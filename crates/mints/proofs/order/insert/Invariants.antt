@@ -1,11 +1,8 @@
 -- Elements move one place to the right, last first, so each is read before it is written over.
-use Rattle.mints.proofs.Inserting.{shift-more, inserted}
 use lib.Seq.{sets}
-use lib.ListN.{length, take, drop, length-set}
+use lib.ListN.{length, take, drop}
 use Prim.Native.Nat.{◌+◌, ◌-◌, ◌≤◌}
-use mathlib.Core.Path.{◌≡◌, refl}
-use native.Mathlib.Omega.{arith}
-use Rattle.mints.proofs.order.insert.Reads as reads
+use mathlib.Core.Path.{◌≡◌}
 use Rattle.mints.proofs.order.insert.Given as goal
 
 abbrev pub invariant-loop-i : goal.invariant-loop-i

@@ -2,13 +2,9 @@
 use Rattle.mints.proofs.Sorting.{spot-bound, put-length, sort-skip, sort-next, sort-fits, sort-rising}
 use Rattle.mints.specs.Order.{spot_in, sort_to}
 use lib.ListN.{length, take}
-use Prim.Native.Nat.{◌-◌, ◌≤◌}
 use native.Mathlib.Numerals.{add-one}
 use mathlib.Core.Path.{◌≡◌, refl, sym, ap, ◌∙◌}
 use native.Mathlib.Omega.{arith}
-use Rattle.mints.proofs.order.sort.Reads as reads
-use Rattle.mints.proofs.order.insert.Reads as insert-reads
-use Rattle.mints.proofs.order.spot.Reads as spot-reads
 use Rattle.mints.proofs.order.sort.Goals as goal
 
 pub loop-next-init : goal.loop-next-init

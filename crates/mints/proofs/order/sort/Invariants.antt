@@ -1,14 +1,8 @@
 -- One row more keeps the first k places what the definition's list is; a row with no mint is left out by both.
-use Rattle.mints.proofs.Sorting.{spot-bound, put-length, sort-skip, sort-next, sort-fits, sort-rising}
-use Rattle.mints.specs.Order.{spot_in, sort_to}
+use Rattle.mints.specs.Order.{sort_to}
 use lib.ListN.{length, take}
 use Prim.Native.Nat.{◌-◌, ◌≤◌}
-use native.Mathlib.Numerals.{add-one}
-use mathlib.Core.Path.{◌≡◌, refl, sym, ap, ◌∙◌}
-use native.Mathlib.Omega.{arith}
-use Rattle.mints.proofs.order.sort.Reads as reads
-use Rattle.mints.proofs.order.insert.Reads as insert-reads
-use Rattle.mints.proofs.order.spot.Reads as spot-reads
+use mathlib.Core.Path.{◌≡◌}
 use Rattle.mints.proofs.order.sort.Given as goal
 
 abbrev pub invariant-loop-next : goal.invariant-loop-next

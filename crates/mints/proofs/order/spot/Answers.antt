@@ -1,15 +1,11 @@
 -- All rows before `low` are not greater, the one at `high` and all behind it are, because they ascend; where the two meet is the first greater one.
 use Rattle.mints.proofs.Sorting.{fit_at, spot-bound, spot-low, spot-high}
-use Rattle.mints.specs.Order.{spot_in}
 use lib.Seq.{get_or-take, length-take-le}
 use lib.ListN.{take}
-use Prim.Native.Nat.{◌+◌, ◌*◌, ◌-◌, ◌/◌, ◌≤◌}
+use Prim.Native.Nat.{◌+◌, ◌/◌}
 use native.Mathlib.Nat.{add-sub_cancel_left}
-use mathlib.Core.Path.{◌≡◌, refl, sym, ◌∙◌}
+use mathlib.Core.Path.{refl, sym, ◌∙◌}
 use native.Mathlib.Omega.{arith}
-use Rattle.mints.specs.Bytes.{mint_width}
-use Rattle.mints.proofs.order.spot.Reads as reads
-use Rattle.wire.proofs.less.Reads as less-reads
 use Rattle.mints.proofs.order.spot.Goals as goal
 
 pub loop-low-init : goal.loop-low-init

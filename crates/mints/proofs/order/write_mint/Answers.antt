@@ -4,9 +4,6 @@ use Rattle.mints.specs.Order.{shown_mint}
 use native.Mathlib.Nat.{add-sub_cancel_left}
 use borrow.Author.Tests.{lt-ltb}
 use Prim.Native.Nat.{◌*◌}
-use borrow.Author.Rules.{rules}
-use Rattle.mints.proofs.order.write_mint.Reads as reads
-use Rattle.wire.proofs.put.Reads as put_reads
 use Rattle.mints.proofs.order.write_mint.Goals as goal
 
 pub returns-then-table-r-gt1 : goal.returns-then-table-r-gt1

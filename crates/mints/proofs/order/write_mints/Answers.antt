@@ -2,14 +2,11 @@
 use Rattle.mints.proofs.Writing.{mints-length, mints-blank}
 use Rattle.mints.specs.Order.{shown_mint, mints_to}
 use Rattle.wire.proofs.Sets.{sets-next}
-use lib.Seq.{sets}
-use lib.ListN.{length, get_or}
-use Prim.Native.Nat.{◌*◌, ◌-◌, ◌≤◌}
+use lib.ListN.{get_or}
+use Prim.Native.Nat.{◌*◌}
 use native.Mathlib.Numerals.{add-one}
 use mathlib.Core.Path.{◌≡◌, refl, ◌∙◌}
 use native.Mathlib.Omega.{arith}
-use Rattle.mints.proofs.order.write_mints.Reads as reads
-use Rattle.mints.proofs.order.write_mint.Reads as write-mint-reads
 use Rattle.mints.proofs.order.write_mints.Goals as goal
 
 pub loop-i-init : goal.loop-i-init

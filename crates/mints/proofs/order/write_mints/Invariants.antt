@@ -1,15 +1,9 @@
 -- Each turn writes 32 bytes behind the mints before it, and behind these all is zero still.
-use Rattle.mints.proofs.Writing.{mints-length, mints-blank}
-use Rattle.mints.specs.Order.{shown_mint, mints_to}
-use Rattle.wire.proofs.Sets.{sets-next}
+use Rattle.mints.specs.Order.{mints_to}
 use lib.Seq.{sets}
-use lib.ListN.{length, get_or}
-use Prim.Native.Nat.{◌*◌, ◌-◌, ◌≤◌}
-use native.Mathlib.Numerals.{add-one}
-use mathlib.Core.Path.{◌≡◌, refl, ◌∙◌}
-use native.Mathlib.Omega.{arith}
-use Rattle.mints.proofs.order.write_mints.Reads as reads
-use Rattle.mints.proofs.order.write_mint.Reads as write-mint-reads
+use lib.ListN.{length}
+use Prim.Native.Nat.{◌-◌, ◌≤◌}
+use mathlib.Core.Path.{◌≡◌}
 use Rattle.mints.proofs.order.write_mints.Given as goal
 
 abbrev pub invariant-loop-i : goal.invariant-loop-i

@@ -1,13 +1,9 @@
 -- The rows differ, so the copy never reaches the bytes that it reads.
 use Rattle.mints.specs.Cells.{with_mint}
 use Rattle.mints.proofs.Copying.{copy_more}
-use lib.Seq.{sets}
-use lib.ListN.{length, take, drop, length-set}
-use Prim.Native.Nat.{◌+◌, ◌*◌, ◌-◌, ◌≤◌}
+use lib.ListN.{length-set}
 use mathlib.Core.Path.{◌≡◌, refl}
 use native.Mathlib.Omega.{arith}
-use Rattle.mints.specs.Bytes.{mint_width}
-use Rattle.mints.proofs.pass.hand.Reads as reads
 use Rattle.mints.proofs.pass.hand.Goals as goal
 
 pub loop-j-init : goal.loop-j-init

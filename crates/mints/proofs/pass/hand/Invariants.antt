@@ -1,13 +1,9 @@
 -- The rows differ, so the copy never reaches the bytes that it reads.
-use Rattle.mints.specs.Cells.{with_mint}
-use Rattle.mints.proofs.Copying.{copy_more}
 use lib.Seq.{sets}
-use lib.ListN.{length, take, drop, length-set}
+use lib.ListN.{length, take, drop}
 use Prim.Native.Nat.{◌+◌, ◌*◌, ◌-◌, ◌≤◌}
-use mathlib.Core.Path.{◌≡◌, refl}
-use native.Mathlib.Omega.{arith}
+use mathlib.Core.Path.{◌≡◌}
 use Rattle.mints.specs.Bytes.{mint_width}
-use Rattle.mints.proofs.pass.hand.Reads as reads
 use Rattle.mints.proofs.pass.hand.Given as goal
 
 abbrev pub invariant-loop-j : goal.invariant-loop-j

@@ -1,12 +1,9 @@
 -- Each turn makes one step more, and a step fills in at most one account, so the count does not overflow.
 use Rattle.mints.proofs.Passing.{one-filled, pass-next}
 use Rattle.mints.specs.Pass.{pass_to}
-use lib.ListN.{length, get_or}
-use Prim.Native.Nat.{◌-◌, ◌≤◌}
+use lib.ListN.{get_or}
 use mathlib.Core.Path.{◌≡◌, refl, ◌∙◌}
 use native.Mathlib.Omega.{arith}
-use Rattle.mints.proofs.pass.pass.Reads as reads
-use Rattle.mints.proofs.pass.step.Reads as step-reads
 use Rattle.mints.proofs.pass.pass.Goals as goal
 
 pub loop-i-init : goal.loop-i-init

@@ -1,14 +1,10 @@
 -- What is left of the passes from here on is the answer; a pass that adds nothing ends it, and after 512 none is left.
 use Rattle.mints.proofs.Passing.{filled-bound, passes-last, passes-next, passes_over}
 use Rattle.mints.specs.Note.{Noted}
-use Rattle.mints.specs.Pass.{passes_from, passes}
+use Rattle.mints.specs.Pass.{passes}
 use borrow.Author.Tests.{ne_eqb}
-use lib.ListN.{length}
-use Prim.Native.Nat.{◌+◌, ◌*◌, ◌-◌, ◌≤◌}
-use mathlib.Core.Path.{◌≡◌, refl, sym, ap, ◌∙◌}
+use mathlib.Core.Path.{refl, sym, ap, ◌∙◌}
 use native.Mathlib.Omega.{arith}
-use Rattle.mints.proofs.pass.run.Reads as reads
-use Rattle.mints.proofs.pass.pass.Reads as pass-reads
 use Rattle.mints.proofs.pass.run.Goals as goal
 
 pub returns-then-room-eq0 : goal.returns-then-room-eq0

@@ -1,14 +1,8 @@
 -- What is left of the passes from here on is the answer; a pass that adds nothing ends it, and after 512 none is left.
-use Rattle.mints.proofs.Passing.{filled-bound, passes-last, passes-next, passes_over}
-use Rattle.mints.specs.Note.{Noted}
 use Rattle.mints.specs.Pass.{passes_from, passes}
-use borrow.Author.Tests.{ne_eqb}
 use lib.ListN.{length}
 use Prim.Native.Nat.{◌+◌, ◌*◌, ◌-◌, ◌≤◌}
-use mathlib.Core.Path.{◌≡◌, refl, sym, ap, ◌∙◌}
-use native.Mathlib.Omega.{arith}
-use Rattle.mints.proofs.pass.run.Reads as reads
-use Rattle.mints.proofs.pass.pass.Reads as pass-reads
+use mathlib.Core.Path.{◌≡◌}
 use Rattle.mints.proofs.pass.run.Given as goal
 
 abbrev pub invariant-loop-p : goal.invariant-loop-p

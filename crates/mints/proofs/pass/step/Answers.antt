@@ -5,10 +5,7 @@ use Prim.Native.Nat.{ℕ, ◌+◌, ◌*◌}
 use mathlib.Core.Path.{refl, ap}
 use native.Mathlib.Omega.{arith}
 use Rattle.mints.specs.Pass.{step_at, filled_at}
-use borrow.Author.Rules.{rules}
 use Rattle.mints.specs.Bytes.{mint_width}
-use Rattle.mints.proofs.pass.step.Reads as reads
-use Rattle.mints.proofs.pass.hand.Reads as hand-reads
 use Rattle.mints.proofs.pass.step.Goals as goal
 
 pub hand-requires : goal.hand-requires

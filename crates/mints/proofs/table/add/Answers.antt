@@ -2,9 +2,6 @@
 use borrow.Author.Tests.{eq-eqb, ne_eqb}
 use native.Mathlib.Numerals.{add-one}
 use mathlib.Core.Path.{refl}
-use borrow.Author.Rules.{rules}
-use Rattle.mints.proofs.table.add.Reads as reads
-use Rattle.wire.proofs.put.Reads as put_reads
 use Rattle.mints.proofs.table.add.Goals as goal
 
 pub returns-then-r-rows : goal.returns-then-r-rows

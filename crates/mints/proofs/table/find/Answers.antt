@@ -1,14 +1,10 @@
 -- The first row with the key, from row i on, is the answer as long as no row before i has it; a byte that differs rules a row out.
 use native.Mathlib.Nat.{sub-zero, eq-or-lt_of_le}
 use Rattle.mints.proofs.Search.{account-is, account-not, skip, found, ended}
-use Rattle.mints.specs.Cells.{first_row_from}
-use lib.ListN.{get_or}
-use Prim.Native.Nat.{ℕ, ◌+◌, ◌*◌, ◌-◌, ◌≤◌, ◌<◌}
+use Prim.Native.Nat.{ℕ, ◌-◌, ◌≤◌, ◌<◌}
 use mathlib.Core.Path.{◌≡◌, refl, sym, subst, ◌∙◌}
 use mathlib.Core.Logic.{⊎_elim}
 use native.Mathlib.Omega.{arith}
-use Rattle.mints.specs.Bytes.{mint_width}
-use Rattle.mints.proofs.table.find.Reads as reads
 use Rattle.mints.proofs.table.find.Goals as goal
 
 -- what holds of the places from j to 32, and of the one before them

@@ -1,19 +1,10 @@
 -- Each turn lays one key more, and `ends` goes on holding the last byte of every row, because a new row ends as its key does.
-use Rattle.mints.proofs.Search.{within}
-use Rattle.ids.proofs.Keys.{key-length}
-use Rattle.mints.proofs.Laying.{lay-next, one-row, ends-first, ends_more}
-use Rattle.mints.specs.Cells.{with_state, LastBytesSeen}
+use Rattle.mints.specs.Cells.{LastBytesSeen}
 use Rattle.mints.specs.Lay.{lay_to}
-use Rattle.ids.specs.Keys.{zero_key, key_count, key_of}
-use lib.ListN.{length, set, length-set}
+use Rattle.ids.specs.Keys.{key_count, key_of}
+use lib.ListN.{length}
 use Prim.Native.Nat.{suc, ◌*◌, ◌-◌, ◌≤◌}
-use mathlib.Core.Path.{◌≡◌, refl, ap, ◌∙◌}
-use native.Mathlib.Omega.{arith}
-use Rattle.mints.proofs.table.lay_marking.Reads as reads
-use Rattle.ids.proofs.key.Reads as key_reads
-use Rattle.mints.proofs.table.add.Reads as add_reads
-use Rattle.mints.proofs.table.row_for.Reads as row-for-reads
-use Rattle.wire.proofs.byte.Reads as byte-Reads
+use mathlib.Core.Path.{◌≡◌}
 use Rattle.mints.specs.Bytes.{mint_width}
 use Rattle.mints.proofs.table.lay_marking.Given as goal
 

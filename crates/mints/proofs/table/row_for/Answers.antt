@@ -3,10 +3,6 @@ use Rattle.mints.proofs.Search.{unended}
 use mathlib.Core.Path.{sym, ap, ◌∙◌}
 use Prim.Native.Nat.{ℕ}
 use lib.ListN.{get_or}
-use borrow.Author.Rules.{rules}
-use Rattle.mints.proofs.table.row_for.Reads as reads
-use Rattle.mints.proofs.table.find.Reads as find-reads
-use Rattle.wire.proofs.byte.Reads as byte-Reads
 use Rattle.mints.proofs.table.row_for.Goals as goal
 
 pub returns-then-ends-byte-eq0 : goal.returns-then-ends-byte-eq0
