@@ -1,0 +1,18 @@
+-- All lines before `low` are below, the one at `high` and all behind it are not, because they ascend; where the two meet is the spot.
+use Rattle.std.proofs.Common.{◌+◌, ◌-◌, ◌/◌, ◌≤◌, [], sym, ◌∙◌, arith}
+use native.Mathlib.Nat.{add-sub_cancel_left}
+use Rattle.month.specs.Report.{lines_of}
+use Rattle.month.specs.Bytes.{rows_to}
+use Rattle.month.specs.Lookup.{spot_of}
+use Rattle.month.proofs.Tables.{lines-ascend}
+use Rattle.month.proofs.Views.{lines-length, line_at}
+use Rattle.month.proofs.Spots.{spot-most, spot-low, spot-high}
+use Rattle.month.proofs.line.spot.Reads as reads
+use Rattle.wire.proofs.less.Reads as less-reads
+use Rattle.month.proofs.line.spot.Given as goal
+
+abbrev pub invariant-loop-low : goal.invariant-loop-low
+invariant-loop-low l = (l.high ≤ l.rows) × (l.low ≤ spot_of l.line (lines_of (rows_to l.report l.rows))) × (spot_of l.line (lines_of (rows_to l.report l.rows)) ≤ l.high)
+
+abbrev pub decreases-loop-low : goal.decreases-loop-low
+decreases-loop-low l = l.high - l.low
