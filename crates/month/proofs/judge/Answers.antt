@@ -8,22 +8,22 @@ use Rattle.month.proofs.judge.Goals.{Else-not-report, Else-not-table}
 
 -- what is known behind the first two tests
 table_good : (c : Else-not-table) → good_table c.args.transfers.now ≡ true
-table_good c = sym c.table.ensures ∙ not-false c.table.result c.if-not-table.false
+table_good c = sym c.table.ensures ∙ c.if-not-table.false
 
 report_good : (c : Else-not-report) → good_report c.args.report.now c.args.rows c.args.fed ≡ true
-report_good c = sym c.report.ensures ∙ not-false c.report.result c.if-not-report.false
+report_good c = sym c.report.ensures ∙ c.if-not-report.false
 
 pub returns-then-not-table : goal.returns-then-not-table
 unfolding stays
 returns-then-not-table c =
     let a = c.args in
-    sym (ap (λ (x : Books). x.number) (refused-19 a.report.now a.rows a.fed a.transfers.now (sym c.table.ensures ∙ not-true c.table.result c.if-not-table.true)))
+    sym (ap (λ (x : Books). x.number) (refused-19 a.report.now a.rows a.fed a.transfers.now (sym c.table.ensures ∙ c.if-not-table.true)))
 
 pub returns-then-not-report : goal.returns-then-not-report
 unfolding stays
 returns-then-not-report c =
     let a = c.args in
-    sym (ap (λ (x : Books). x.number) (refused-20 a.report.now a.rows a.fed a.transfers.now (table_good (goal.at.returns-then-not-report c).Else-not-table) (sym c.report.ensures ∙ not-true c.report.result c.if-not-report.true)))
+    sym (ap (λ (x : Books). x.number) (refused-20 a.report.now a.rows a.fed a.transfers.now (table_good (goal.at.returns-then-not-report c).Else-not-table) (sym c.report.ensures ∙ c.if-not-report.true)))
 
 pub full-requires : goal.full-requires
 full-requires c =

@@ -24,19 +24,19 @@ pub overflow_mul-used : goal.overflow_mul-used
 overflow_mul-used c =
     let p = passed (goal.at.overflow_mul-used c).Else-number-ne0 in
     let f = c.feed-used in
-    omega (arith, p.room, f.ensures.1, f.auto.0)
+    omega (arith, p.room, f.ensures.1, f.auto.report)
 
 pub slice_bounds-clear-count : goal.slice_bounds-clear-count
 slice_bounds-clear-count c =
     let p = passed (goal.at.slice_bounds-clear-count c).Else-number-ne0 in
     let f = c.feed-used in
-    omega (arith, p.room, f.ensures.1, f.auto.0)
+    omega (arith, p.room, f.ensures.1, f.auto.report)
 
 pub slice_bounds-clear-start : goal.slice_bounds-clear-start
 slice_bounds-clear-start c =
     let p = passed (goal.at.slice_bounds-clear-start c).Else-number-ne0 in
     let f = c.feed-used in
-    omega (arith, p.room, f.ensures.1, f.auto.0)
+    omega (arith, p.room, f.ensures.1, f.auto.report)
 
 pub overflow_cast-result : goal.overflow_cast-result
 overflow_cast-result c =
@@ -52,7 +52,7 @@ pub returns : goal.returns
 returns c =
     let p = passed (goal.at.returns c).Else-number-ne0 in
     let f = c.feed-used in
-    let d = f.new.0 in
+    let d = f.new.report in
     let u = f.result in
-    rw (c.clear.ensures, tail-cleared d (u * 118) (omega (arith, p.room, f.ensures.1, f.auto.0)))
-    (passed-feeds p d u f.ensures.0 f.ensures.1 (λ i. omega (arith, c.slice_known-2-1.given i)) f.auto.0)
+    rw (c.clear.ensures, tail-cleared d (u * 118) (omega (arith, p.room, f.ensures.1, f.auto.report)))
+    (passed-feeds p d u f.ensures.0 f.ensures.1 (λ i. omega (arith, c.slice_known-2-1.given i)) f.auto.report)

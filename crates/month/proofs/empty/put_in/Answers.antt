@@ -18,7 +18,7 @@ use Rattle.month.proofs.empty.put_in.Goals.{After-spot-place}
 place-most : (c : After-spot-place) → c.spot-place.result ≤ c.loop-j.i
 place-most c =
     let l = c.loop-j in
-    omega (arith, c.spot-place.ensures, spot-most c.put_line.new.0 (lines_of (rows_to l.report l.i)), lines-length l.report l.i)
+    omega (arith, c.spot-place.ensures, spot-most c.put_line.new.line (lines_of (rows_to l.report l.i)), lines-length l.report l.i)
 
 pub loop-j-init : goal.loop-j-init
 loop-j-init c =
@@ -40,7 +40,7 @@ pub put_line-requires : goal.put_line-requires
 put_line-requires c = (c.loop-j.invariant.2, held_at c.requires.2 (c.loop-j.j - 1) (omega arith))
 
 pub slice_bounds-spot-end : goal.slice_bounds-spot-end
-slice_bounds-spot-end c = sym (c.put_line.auto.0 ∙ c.loop-j.invariant.2)
+slice_bounds-spot-end c = sym (c.put_line.auto.line ∙ c.loop-j.invariant.2)
 
 pub spot-place-requires : goal.spot-place-requires
 spot-place-requires c = record { inside = omega arith; sorted = c.loop-j.invariant.4 }
@@ -60,10 +60,10 @@ pub overflow_mul-place-in-loop-j : goal.overflow_mul-place-in-loop-j
 overflow_mul-place-in-loop-j c = omega (arith, place-most (goal.at.overflow_mul-place-in-loop-j c).After-spot-place)
 
 pub slice_bounds-put_row-end : goal.slice_bounds-put_row-end
-slice_bounds-put_row-end c = sym (c.put_line.auto.0 ∙ c.loop-j.invariant.2)
+slice_bounds-put_row-end c = sym (c.put_line.auto.line ∙ c.loop-j.invariant.2)
 
 pub put_row-requires : goal.put_row-requires
-put_row-requires c = (omega (arith, place-most (goal.at.put_row-requires c).After-spot-place, c.shift.auto.0), c.put_line.auto.0 ∙ c.loop-j.invariant.2)
+put_row-requires c = (omega (arith, place-most (goal.at.put_row-requires c).After-spot-place, c.shift.auto.d), c.put_line.auto.line ∙ c.loop-j.invariant.2)
 
 pub loop-j-preserved : goal.loop-j-preserved
 loop-j-preserved c =
@@ -77,27 +77,24 @@ loop-j-preserved c =
     let line = line_numbered t (get_or ns j 0) in
     let step : j + 1 ≡ l.j = omega arith in
     let most = place-most (goal.at.loop-j-preserved c).After-spot-place in
-    let wide : length line ≡ 66 = rw (← c.put_line.ensures) (c.put_line.auto.0 ∙ l.invariant.2) in
+    let wide : length line ≡ 66 = rw (← c.put_line.ensures) (c.put_line.auto.line ∙ l.invariant.2) in
     let room : (c.args.rows + c.args.k) * 118 ≤ length b = omega arith in
     let seat : p ≡ spot_of line (lines_of (rows_to b l.i)) = rw (← c.put_line.ensures) c.spot-place.ensures in
-    let out : c.put_row.new.0 ≡ put_in b p l.i l.j j line =
+    let out : c.put_row.new.report ≡ put_in b p l.i l.j j line =
     c.put_row.ensures ∙ rw (c.shift.ensures, c.put_line.ensures) in
-    let before : rows_to c.put_row.new.0 p ≡ take p (rows_to b l.i) =
+    let before : rows_to c.put_row.new.report p ≡ take p (rows_to b l.i) =
     rw out (rows_before b p l.i l.j j (c.args.rows + c.args.k) line most step (omega arith) room wide ∙ sym (rows-part b l.i p most)) in
     let whole =
     put_step b p l.i l.j j (c.args.rows + c.args.k) line most step (omega arith) room wide l.invariant.4 (l.invariant.5 line (line-held h l.j j step (omega arith))) seat
     (lines_numbered t (take j ns)) (lines-below h l.j j step (omega arith)) in (
       omega arith,
       omega arith,
-      c.put_line.auto.0 ∙ l.invariant.2,
-      c.put_row.auto.0 ∙ c.shift.auto.0 ∙ l.invariant.3,
+      c.put_line.auto.line ∙ l.invariant.2,
+      c.put_row.auto.report ∙ c.shift.auto.d ∙ l.invariant.3,
       rw before (front-sorted p l.invariant.4),
       λ x i. rw before (front-among x p (rows_to b l.i) (l.invariant.5 x i)),
       rw (out, whole, ← lines_next h l.j j step (omega arith)) l.invariant.6,
     )
-
-pub shape_of-report : goal.shape_of-report
-shape_of-report c = c.loop-j.invariant.3
 
 pub returns : goal.returns
 unfolding add_rows

@@ -30,9 +30,6 @@ loop-i-2-preserved c =
     let a = c.args in
     (omega arith, omega arith, simp length-set l.invariant.2, move-one o.d l.d o.i a.by (l.i - 1) l.i (omega arith) (omega arith) (omega arith) l.invariant.2 l.invariant.3)
 
-pub shape_of-d : goal.shape_of-d
-shape_of-d c = c.loop-i-2.invariant.2 ∙ c.loop-i.invariant.2
-
 pub returns : goal.returns
 returns c =
     let l = c.loop-i-2 in

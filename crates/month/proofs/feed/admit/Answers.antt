@@ -10,10 +10,6 @@ use Rattle.month.proofs.Adding.{add-all-sorted}
 use Rattle.month.proofs.Views.{rows-length}
 use Rattle.month.proofs.Bearing.{bears-empty}
 use Rattle.month.proofs.Batches.{fresh, admitted-all, admitted-fed, admit-used, admit-out, admit-rows}
-use Rattle.month.proofs.feed.admit.Reads as reads
-use Rattle.month.proofs.empty.put_in.Reads as put-in-reads
-use Rattle.month.proofs.feed.post_waiting.Reads as post-waiting-reads
-use Rattle.month.proofs.new.gather.Reads as gather-reads
 use Rattle.month.proofs.feed.admit.Goals as goal
 use Rattle.month.proofs.feed.admit.Goals.{After-gather-k, After-put_in}
 
@@ -33,18 +29,18 @@ rows_then c =
     omega (
       arith,
       rows-length a.report.now a.rows,
-      admit-used (old c) a.t.now a.wait.now g.new.1.1.1.1.1.0 a.count g.result p.2 p.1 g.ensures p.0.sorted,
+      admit-used (old c) a.t.now a.wait.now g.new.numbers a.count g.result p.2 p.1 g.ensures p.0.sorted,
     )
 
 -- the report with the empty rows
 made :
     (c : After-put_in)
-    → rows_to c.put_in.new.0 (c.args.rows + c.gather-k.result) ≡ add_rows (old c) (empty_rows (fresh (old c) (waits c)))
+    → rows_to c.put_in.new.report (c.args.rows + c.gather-k.result) ≡ add_rows (old c) (empty_rows (fresh (old c) (waits c)))
 made c =
     let g = c.gather-k in
     let a = c.args in
     let p = c.requires in
-    c.put_in.ensures ∙ admit-rows (old c) a.t.now a.wait.now g.new.1.1.1.1.1.0 a.count g.result p.2 p.1 g.ensures
+    c.put_in.ensures ∙ admit-rows (old c) a.t.now a.wait.now g.new.numbers a.count g.result p.2 p.1 g.ensures
 
 pub returns-then-count-eq0 : goal.returns-then-count-eq0
 returns-then-count-eq0 c =
@@ -62,7 +58,7 @@ put_in-requires c =
       p.0,
       omega (arith, rows_then (goal.at.put_in-requires c).After-gather-k, p.5),
       g.ensures.holds_lines,
-      admit-out (rows_to a.report.now a.rows) a.t.now a.wait.now g.new.1.1.1.1.1.0 a.count g.result p.2 p.1 g.ensures,
+      admit-out (rows_to a.report.now a.rows) a.t.now a.wait.now g.new.numbers a.count g.result p.2 p.1 g.ensures,
     )
 
 pub post_waiting-requires : goal.post_waiting-requires
@@ -71,7 +67,7 @@ post_waiting-requires c =
     let p = c.requires in
     let e = made (goal.at.post_waiting-requires c).After-put_in in (
       record {
-        inside = omega (arith, rows_then (goal.at.post_waiting-requires c).After-gather-k, p.5, q.auto.0);
+        inside = omega (arith, rows_then (goal.at.post_waiting-requires c).After-gather-k, p.5, q.auto.report);
         sorted = rw e (add-all-sorted (empty_rows (fresh (old (goal.at.post_waiting-requires c).After-gather-k) (waits (goal.at.post_waiting-requires c).After-gather-k))) p.0.sorted);
       },
       p.1,

@@ -7,9 +7,6 @@ use Rattle.month.specs.Standing.{Bears}
 use Rattle.month.proofs.Views.{rows-length}
 use Rattle.month.proofs.Bearing.{bears-less}
 use Rattle.month.proofs.Batches.{stands-fed, fed-start, to_end, room-part, batch}
-use Rattle.month.proofs.feed.feed.Reads as reads
-use Rattle.month.proofs.feed.admit.Reads as admit-reads
-use Rattle.month.proofs.feed.walk.Reads as walk-reads
 use Rattle.month.proofs.feed.feed.Goals as goal
 use Rattle.month.proofs.feed.feed.Goals.{After-walk-walked}
 
@@ -60,7 +57,7 @@ walk-walked-requires c =
     )
 
 pub slice_bounds-admit-end : goal.slice_bounds-admit-end
-slice_bounds-admit-end c = sym (c.walk-walked.auto.1.1.1.1.0 ∙ c.loop-from.invariant.1)
+slice_bounds-admit-end c = sym (c.walk-walked.auto.wait ∙ c.loop-from.invariant.1)
 
 pub admit-used-requires : goal.admit-used-requires
 admit-used-requires c =
@@ -70,11 +67,11 @@ admit-used-requires c =
     let p = c.requires in (
       w.ensures.stands_after,
       w.ensures.wait_most,
-      omega (arith, w.ensures.wait_most, w.auto.1.1.1.1.0, l.invariant.1),
+      omega (arith, w.ensures.wait_most, w.auto.wait, l.invariant.1),
       w.ensures.wait_there,
-      bears-less w.result.waiting (length a.t.now / 150 - w.result.to + w.result.waiting) (rows_to w.new.0 l.used) (omega arith) w.ensures.bears_after,
+      bears-less w.result.waiting (length a.t.now / 150 - w.result.to + w.result.waiting) (rows_to w.new.report l.used) (omega arith) w.ensures.bears_after,
       omega
-          (arith, ap (λ (m : Report). used m) (w.ensures.fed_later ∙ (fed-on @AT:After_walk@).0), room-part (old (goal.at.admit-used-requires c).After-walk-walked) a.t.now w.result.to w.ensures.in_table, p.3, l.invariant.2, w.auto.0),
+          (arith, ap (λ (m : Report). used m) (w.ensures.fed_later ∙ (fed-on @AT:After_walk@).0), room-part (old (goal.at.admit-used-requires c).After-walk-walked) a.t.now w.result.to w.ensures.in_table, p.3, l.invariant.2, w.auto.report),
     )
 
 pub loop-from-smaller : goal.loop-from-smaller
@@ -87,10 +84,7 @@ loop-from-preserved c =
     let l = c.loop-from in
     let s = fed-on @AT:After_walk@ in
     let e = q.ensures.0 ∙ w.ensures.fed_later in
-    (w.ensures.in_table, w.auto.1.1.1.1.0 ∙ l.invariant.1, q.auto.0 ∙ w.auto.0 ∙ l.invariant.2, e ∙ s.0, rw e s.1)
-
-pub shape_of-report : goal.shape_of-report
-shape_of-report c = c.loop-from.invariant.2
+    (w.ensures.in_table, w.auto.wait ∙ l.invariant.1, q.auto.report ∙ w.auto.report ∙ l.invariant.2, e ∙ s.0, rw e s.1)
 
 pub returns : goal.returns
 returns c =

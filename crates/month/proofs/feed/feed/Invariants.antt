@@ -7,9 +7,6 @@ use Rattle.month.specs.Standing.{Bears}
 use Rattle.month.proofs.Views.{rows-length}
 use Rattle.month.proofs.Bearing.{bears-less}
 use Rattle.month.proofs.Batches.{stands-fed, fed-start, to_end, room-part, batch}
-use Rattle.month.proofs.feed.feed.Reads as reads
-use Rattle.month.proofs.feed.admit.Reads as admit-reads
-use Rattle.month.proofs.feed.walk.Reads as walk-reads
 use Rattle.month.proofs.feed.feed.Given as goal
 
 abbrev pub invariant-loop-from : goal.invariant-loop-from

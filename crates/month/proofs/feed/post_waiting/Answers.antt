@@ -8,8 +8,6 @@ use Rattle.month.proofs.Reports.{fed-nothing}
 use Rattle.month.proofs.Gathering.{place_in}
 use Rattle.month.proofs.Bearing.{bears-less}
 use Rattle.month.proofs.Batches.{stands-fed, posted}
-use Rattle.month.proofs.feed.post_waiting.Reads as reads
-use Rattle.month.proofs.sums.post.Reads as post-reads
 use Rattle.month.proofs.feed.post_waiting.Goals as goal
 
 pub loop-i-init : goal.loop-i-init
@@ -46,12 +44,9 @@ loop-i-preserved c =
     let k = c.shared_slice_known-1 in
     let a = c.args in
     let p = c.requires in
-    let s = posted (rows_to a.report.now a.rows) (rows_to l.report a.rows) (rows_to q.new.0 a.rows) a.t.now a.wait.now a.count l.i q.result
+    let s = posted (rows_to a.report.now a.rows) (rows_to l.report a.rows) (rows_to q.new.report a.rows) a.t.now a.wait.now a.count l.i q.result
     (λ j. omega (arith, k.given j)) h p.1 p.2 p.3 p.5 l.invariant.2 l.invariant.3 q.ensures.0 q.ensures.1 in
-    (omega arith, q.auto.0 ∙ l.invariant.1, s.0, s.1)
-
-pub shape_of-report : goal.shape_of-report
-shape_of-report c = c.loop-i.invariant.1
+    (omega arith, q.auto.report ∙ l.invariant.1, s.0, s.1)
 
 pub returns : goal.returns
 returns c =

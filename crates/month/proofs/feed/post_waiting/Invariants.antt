@@ -8,8 +8,6 @@ use Rattle.month.proofs.Reports.{fed-nothing}
 use Rattle.month.proofs.Gathering.{place_in}
 use Rattle.month.proofs.Bearing.{bears-less}
 use Rattle.month.proofs.Batches.{stands-fed, posted}
-use Rattle.month.proofs.feed.post_waiting.Reads as reads
-use Rattle.month.proofs.sums.post.Reads as post-reads
 use Rattle.month.proofs.feed.post_waiting.Given as goal
 
 abbrev pub invariant-loop-i : goal.invariant-loop-i

@@ -10,8 +10,6 @@ use Rattle.month.proofs.Reports.{fed-sorted}
 use Rattle.month.proofs.Reading.{transfer-formed}
 use Rattle.month.proofs.Bearing.{bears-less, bears-fed}
 use Rattle.month.proofs.Batches.{from-none, step-posts, step_waits, places-more}
-use Rattle.month.proofs.feed.walk.Reads as reads
-use Rattle.month.proofs.sums.post.Reads as post-reads
 use Rattle.month.proofs.feed.walk.Goals as goal
 use Rattle.month.proofs.feed.walk.Goals.{At-loop-i}
 
@@ -50,7 +48,7 @@ loop-i-preserved c =
     let p = c.requires in
     let r = rows_to a.report.now a.rows in
     let cur = rows_to l.report a.rows in
-    let next = rows_to q.new.0 a.rows in
+    let next = rows_to q.new.report a.rows in
     let n = length a.t.now / 150 in
     let x = fed_at a.t.now l.i in
     ⊎_elim
@@ -61,7 +59,7 @@ loop-i-preserved c =
       omega arith,
       omega (arith, length-set l.wait l.waiting l.i),
       length-set l.wait l.waiting l.i ∙ l.invariant.3,
-      q.auto.0 ∙ l.invariant.4,
+      q.auto.report ∙ l.invariant.4,
       places-more a.t.now l.wait l.waiting l.i (omega arith) (omega arith) l.invariant.5,
       step_waits r cur next a.t.now l.wait a.from l.waiting l.i l.invariant.6 (omega arith) e (omega arith),
       rw e l.invariant.7,
@@ -74,7 +72,7 @@ loop-i-preserved c =
       omega arith,
       l.invariant.2,
       l.invariant.3,
-      q.auto.0 ∙ l.invariant.4,
+      q.auto.report ∙ l.invariant.4,
       l.invariant.5,
       step-posts r cur next a.t.now l.wait a.from l.waiting l.i l.invariant.6 (omega arith) e,
       rw e (fed-sorted cur (x ∷ [])),
@@ -100,20 +98,8 @@ walked c h =
       bears_after = l.invariant.8;
     }
 
-pub shape_of-report-after-loop-i : goal.shape_of-report-after-loop-i
-shape_of-report-after-loop-i c = c.loop-i.invariant.4
-
-pub shape_of-wait-after-loop-i : goal.shape_of-wait-after-loop-i
-shape_of-wait-after-loop-i c = c.loop-i.invariant.3
-
 pub returns-after-loop-i : goal.returns-after-loop-i
 returns-after-loop-i c = walked (goal.at.returns-after-loop-i c).At-loop-i (omega (arith, c.requires.1))
-
-pub shape_of-report-then-wait-waiting : goal.shape_of-report-then-wait-waiting
-shape_of-report-then-wait-waiting c = c.loop-i.invariant.4
-
-pub shape_of-wait-then-wait-waiting : goal.shape_of-wait-then-wait-waiting
-shape_of-wait-then-wait-waiting c = c.loop-i.invariant.3
 
 pub returns-then-wait-waiting : goal.returns-then-wait-waiting
 returns-then-wait-waiting c = walked (goal.at.returns-then-wait-waiting c).At-loop-i (omega (arith, c.requires.2))

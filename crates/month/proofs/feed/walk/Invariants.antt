@@ -10,8 +10,6 @@ use Rattle.month.proofs.Reports.{fed-sorted}
 use Rattle.month.proofs.Reading.{transfer-formed}
 use Rattle.month.proofs.Bearing.{bears-less, bears-fed}
 use Rattle.month.proofs.Batches.{from-none, step-posts, step_waits, places-more}
-use Rattle.month.proofs.feed.walk.Reads as reads
-use Rattle.month.proofs.sums.post.Reads as post-reads
 use Rattle.month.proofs.feed.walk.Given as goal
 
 abbrev pub invariant-loop-i : goal.invariant-loop-i

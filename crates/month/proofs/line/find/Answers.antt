@@ -7,9 +7,6 @@ use Rattle.month.specs.Bytes.{rows_to}
 use Rattle.month.proofs.Tables.{lines-ascend}
 use Rattle.month.proofs.Views.{lines-length, line_at}
 use Rattle.month.proofs.Spots.{place-spot, place_end, place_other}
-use Rattle.month.proofs.line.find.Reads as reads
-use Rattle.month.proofs.line.spot.Reads as spot-reads
-use Rattle.wire.proofs.equal.Reads as equal-reads
 use Rattle.month.proofs.line.find.Goals as goal
 
 pub returns-then-rows-place : goal.returns-then-rows-place

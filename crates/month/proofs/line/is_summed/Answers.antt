@@ -1,8 +1,6 @@
 -- The flag first, then the two numbers, as `summed` tests them.
 use Rattle.std.proofs.Common.{◌*◌, sym, rules}
 use Rattle.month.proofs.Numbered.{summed-not, summed_by}
-use Rattle.month.proofs.line.is_summed.Reads as reads
-use Rattle.wire.proofs.u64_at.Reads as u64-at-reads
 use Rattle.month.proofs.line.is_summed.Goals as goal
 
 pub returns-then-t-at-ne1 : goal.returns-then-t-at-ne1

@@ -7,8 +7,6 @@ use Rattle.month.specs.Lookup.{spot_of}
 use Rattle.month.proofs.Tables.{lines-ascend}
 use Rattle.month.proofs.Views.{lines-length, line_at}
 use Rattle.month.proofs.Spots.{spot-most, spot-low, spot-high}
-use Rattle.month.proofs.line.spot.Reads as reads
-use Rattle.wire.proofs.less.Reads as less-reads
 use Rattle.month.proofs.line.spot.Goals as goal
 
 pub loop-low-init : goal.loop-low-init

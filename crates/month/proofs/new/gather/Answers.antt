@@ -5,8 +5,6 @@ use Rattle.month.specs.Bytes.{rows_to}
 use Rattle.month.specs.Lookup.{fed_at, transfers_at, new_above}
 use Rattle.month.specs.Standing.{Entered}
 use Rattle.std.proofs.Common.{◌≡◌, ◌-◌, ◌≤◌, [], length, get_or, take, refl, ◌∙◌, arith, rules}
-use Rattle.month.proofs.new.gather.Reads as reads
-use Rattle.month.proofs.new.note_lines.Reads as note-lines-reads
 use Rattle.month.proofs.new.gather.Goals as goal
 
 -- src/new.rt:136:5
@@ -28,14 +26,10 @@ loop-i-preserved c =
     let l = c.loop-i in
     let n = c.note_lines-k in (
       omega arith,
-      n.auto.1.1.1.1.1.0 ∙ l.invariant.1,
+      n.auto.numbers ∙ l.invariant.1,
       rw (transfers-next a.t.now a.wait.now l.i (omega arith))
           (one-gathered (lines_of (rows_to a.report.now a.rows)) [] (transfers_at a.t.now (take l.i a.wait.now)) (fed_at a.t.now (get_or a.wait.now l.i 0)) l.invariant.1 l.invariant.2 n.ensures),
     )
-
--- src/new.rt:121:1
-pub shape_of-numbers : goal.shape_of-numbers
-shape_of-numbers c = c.loop-i.invariant.1
 
 -- src/new.rt:121:1
 pub returns : goal.returns

@@ -5,12 +5,10 @@ use Rattle.month.specs.Bytes.{rows_to}
 use Rattle.month.specs.Lookup.{fed_at, transfers_at, new_above}
 use Rattle.month.specs.Standing.{Entered}
 use Rattle.std.proofs.Common.{◌≡◌, ◌-◌, ◌≤◌, [], length, get_or, take, refl, ◌∙◌, arith, rules}
-use Rattle.month.proofs.new.gather.Reads as reads
-use Rattle.month.proofs.new.note_lines.Reads as note-lines-reads
 use Rattle.month.proofs.new.gather.Given as goal
 
 abbrev pub invariant-loop-i : goal.invariant-loop-i
-invariant-loop-i l = ?
+invariant-loop-i l = (l.i ≤ l.count) × (length l.numbers ≡ length l.initial.numbers) × Entered l.t l.numbers l.k (take (length l.initial.numbers) (new_above (lines_of (rows_to l.report l.rows)) [] (lines_in (transfers_at l.t (take l.i l.wait)))))
 
 abbrev pub decreases-loop-i : goal.decreases-loop-i
-decreases-loop-i l = ?
+decreases-loop-i l = l.count - l.i

@@ -2,7 +2,6 @@
 use Rattle.month.proofs.Noting.{move-more, moved}
 use lib.Seq.{sets}
 use Rattle.std.proofs.Common.{◌≡◌, ◌+◌, ◌-◌, ◌≤◌, length, take, drop, refl, arith, length-set}
-use Rattle.month.proofs.new.insert.Reads as reads
 use Rattle.month.proofs.new.insert.Goals as goal
 
 -- src/new.rt:55:5
@@ -18,10 +17,6 @@ loop-i-preserved c =
     let l = c.loop-i in
     let a = c.args in
     (omega arith, omega arith, simp length-set l.invariant.2, rw l.invariant.3 (move-more a.numbers.now a.k l.i (omega arith) (omega arith) (omega arith)))
-
--- src/new.rt:50:1
-pub shape_of-numbers : goal.shape_of-numbers
-shape_of-numbers c = simp length-set c.loop-i.invariant.2
 
 -- src/new.rt:50:1
 pub returns : goal.returns

@@ -2,7 +2,6 @@
 use Rattle.month.proofs.Noting.{move-more, moved}
 use lib.Seq.{sets}
 use Rattle.std.proofs.Common.{◌≡◌, ◌+◌, ◌-◌, ◌≤◌, length, take, drop, refl, arith, length-set}
-use Rattle.month.proofs.new.insert.Reads as reads
 use Rattle.month.proofs.new.insert.Given as goal
 
 abbrev pub invariant-loop-i : goal.invariant-loop-i

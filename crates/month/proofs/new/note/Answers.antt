@@ -3,33 +3,22 @@ use Rattle.month.proofs.Noting.{note-below, note-old, note-behind, note-there, n
 use Rattle.month.proofs.Spots.{spot-most}
 use Rattle.month.specs.Lookup.{lines_numbered}
 use borrow.Author.Tests.{not-true, not-false}
-use Rattle.std.proofs.Common.{length, take, sym, ◌∙◌, arith, rules}
+use Rattle.std.proofs.Common.{length, take, sym, ◌∙◌, inl, inr, arith, rules}
 use mathlib.Core.Logic.{⊎_map}
-use Rattle.month.proofs.new.note.Reads as reads
-use Rattle.month.proofs.line.find.Reads as find-reads
-use Rattle.month.proofs.line.put_line.Reads as put-line-reads
-use Rattle.month.proofs.new.at_spot.Reads as at-spot-reads
-use Rattle.month.proofs.new.insert.Reads as insert-reads
-use Rattle.month.proofs.new.spot.Reads as spot-reads
-use Rattle.wire.proofs.less.Reads as less-reads
 use Rattle.month.proofs.new.note.Goals as goal
-use Rattle.month.proofs.new.note.Goals.{Joined-k-numbers, Start}
-
-abbrev at-start : Joined-k-numbers → Start
-at-start c = @AT:Start@
+use Rattle.month.proofs.new.note.Goals.{Joined-k-numbers, then-k-numbers, else-k-numbers}
 
 -- the place is among the k, so it is among those that stay
-kept : (c : Joined-k-numbers) → Keeps c.spot-j.result (at-start c).args.k (length (at-start c).args.numbers.now) c.if-k-numbers.auto
+kept : (c : Joined-k-numbers) → Keeps c.spot-j.result c.args.k (length c.args.numbers.now) c.if-k-numbers.kept
 kept c =
-    let start = at-start c in
-    let a = start.args in
+    let a = c.args in
     let e = c.spot-j.ensures in
     let n = c.put_line.ensures in
     keeps
-    (omega (arith, e, spot-most c.put_line.new.0 (lines_numbered a.t.now (take a.k a.numbers.now)), held-length start.pre.2))
+    (omega (arith, e, spot-most c.put_line.new.line (lines_numbered a.t.now (take a.k a.numbers.now)), held-length c.requires.2))
     (omega arith)
-    start.pre.2.held_most
-    (⊎_map (λ w. (w.0.taken, w.1)) (λ w. (w.0.left, w.1)) c.if-k-numbers.branch)
+    c.requires.2.held_most
+    (elim c.if-k-numbers.branch [ then-k-numbers w ↦ inl (w.if-k-numbers.true, w.kept-is) | else-k-numbers w ↦ inr (w.if-k-numbers.false, w.kept-is) ])
 
 -- src/new.rt:80:9
 pub returns-then-not-less : goal.returns-then-not-less
@@ -65,7 +54,7 @@ insert-requires c =
 
 -- src/new.rt:94:5
 pub overflow_add-result : goal.overflow_add-result
-overflow_add-result c = omega (arith, (kept (goal.at.overflow_add-result c).Joined-k-numbers).2, c.well-formed.1.1.1.1.1.0)
+overflow_add-result c = omega (arith, (kept (goal.at.overflow_add-result c).Joined-k-numbers).2)
 
 -- src/new.rt:63:1
 pub returns : goal.returns
@@ -73,4 +62,4 @@ returns c =
     let a = c.args in
     note-put c.requires.2 a.report.now a.rows a.bound.now a.n c.put_line.ensures
     (sym c.less.ensures ∙ c.if-not-less.false) (omega (arith, c.find.ensures)) c.spot-j.ensures
-    c.requires.1 c.insert.auto.0 (kept (goal.at.returns c).Joined-k-numbers) (sym c.at_spot.ensures ∙ c.if-at_spot.false) c.insert.ensures
+    c.requires.1 c.insert.auto.numbers (kept (goal.at.returns c).Joined-k-numbers) (sym c.at_spot.ensures ∙ c.if-at_spot.false) c.insert.ensures

@@ -4,9 +4,6 @@ use Rattle.month.specs.Report.{lines_of}
 use Rattle.month.specs.Bytes.{rows_to}
 use borrow.Author.Tests.{not-true, not-false}
 use Rattle.std.proofs.Common.{sym, ◌∙◌, rules}
-use Rattle.month.proofs.new.note_lines.Reads as reads
-use Rattle.month.proofs.line.is_summed.Reads as is-summed-reads
-use Rattle.month.proofs.new.note.Reads as note-reads
 use Rattle.month.proofs.new.note_lines.Goals as goal
 
 -- src/new.rt:114:9
@@ -21,4 +18,4 @@ returns c =
     let a = c.args in
     let one = c.note-one in
     let two = c.note-two in
-    three-noted a.t.now a.numbers.now a.k (lines_of (rows_to a.report.now a.rows)) a.bound.now a.i (sym c.is_summed.ensures ∙ c.if-not-is_summed.false) one.auto.1.1.1.1.1.0 two.auto.1.1.1.1.1.0 one.ensures two.ensures c.note.ensures
+    three-noted a.t.now a.numbers.now a.k (lines_of (rows_to a.report.now a.rows)) a.bound.now a.i (sym c.is_summed.ensures ∙ c.if-not-is_summed.false) one.auto.numbers two.auto.numbers one.ensures two.ensures c.note.ensures

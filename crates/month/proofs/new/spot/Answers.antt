@@ -4,9 +4,6 @@ use Rattle.month.proofs.Spots.{spot-most, spot-low, spot-high}
 use Rattle.month.specs.Lookup.{lines_numbered, spot_of}
 use Rattle.wire.specs.Order.{lt_key}
 use Rattle.std.proofs.Common.{◌≡◌, ◌+◌, ◌-◌, ◌/◌, ◌≤◌, true, false, [], length, get_or, take, sym, refl, ◌∙◌, arith, rules}
-use Rattle.month.proofs.new.spot.Reads as reads
-use Rattle.month.proofs.line.put_line.Reads as put-line-reads
-use Rattle.wire.proofs.less.Reads as less-reads
 use Rattle.month.proofs.new.spot.Goals as goal
 
 -- src/new.rt:24:5
@@ -34,7 +31,7 @@ loop-low-preserved-then-less c =
     let m = l.low + (l.high - l.low) / 2 in
     let e : lt_key (get_or (lines_numbered a.t.now (take a.k a.numbers.now)) m []) a.line.now ≡ true = rw (held-line c.requires m (omega arith), ← p.ensures) (sym c.less.ensures ∙ c.if-less.true) in
     let h = spot-high a.line.now {l = lines_numbered a.t.now (take a.k a.numbers.now)} [] m c.requires.held_ascend (omega (arith, held-length c.requires)) e in
-    (p.auto.0 ∙ l.invariant.0, l.invariant.1, omega (arith, h), l.invariant.3)
+    (p.auto.line ∙ l.invariant.0, l.invariant.1, omega (arith, h), l.invariant.3)
 
 -- src/new.rt:24:5
 pub loop-low-preserved : goal.loop-low-preserved
@@ -44,4 +41,4 @@ loop-low-preserved c =
     let p = c.put_line in
     let m = l.low + (l.high - l.low) / 2 in
     let e : lt_key (get_or (lines_numbered a.t.now (take a.k a.numbers.now)) m []) a.line.now ≡ false = rw (held-line c.requires m (omega arith), ← p.ensures) (sym c.less.ensures ∙ c.if-less.false) in
-    (p.auto.0 ∙ l.invariant.0, omega arith, l.invariant.2, spot-low a.line.now (lines_numbered a.t.now (take a.k a.numbers.now)) [] m e)
+    (p.auto.line ∙ l.invariant.0, omega arith, l.invariant.2, spot-low a.line.now (lines_numbered a.t.now (take a.k a.numbers.now)) [] m e)

@@ -4,9 +4,6 @@ use Rattle.month.proofs.Spots.{spot-most, spot-low, spot-high}
 use Rattle.month.specs.Lookup.{lines_numbered, spot_of}
 use Rattle.wire.specs.Order.{lt_key}
 use Rattle.std.proofs.Common.{◌≡◌, ◌+◌, ◌-◌, ◌/◌, ◌≤◌, true, false, [], length, get_or, take, sym, refl, ◌∙◌, arith, rules}
-use Rattle.month.proofs.new.spot.Reads as reads
-use Rattle.month.proofs.line.put_line.Reads as put-line-reads
-use Rattle.wire.proofs.less.Reads as less-reads
 use Rattle.month.proofs.new.spot.Given as goal
 
 abbrev pub invariant-loop-low : goal.invariant-loop-low

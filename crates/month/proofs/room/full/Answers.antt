@@ -8,9 +8,6 @@ use Rattle.month.specs.Bytes.{rows_to, transfers_in}
 use Rattle.month.specs.Lookup.{new_above}
 use Rattle.std.proofs.Common.{◌≡◌, ◌+◌, ◌-◌, ◌/◌, ◌<◌, ◌≤◌, length, take, refl, ◌∙◌, arith, take_all, rules, le-ltb, lt-ltb}
 use native.Mathlib.Nat.{sub-zero}
-use Rattle.month.proofs.room.full.Reads as reads
-use Rattle.month.proofs.line.put_line.Reads as put-line-reads
-use Rattle.month.proofs.room.least.Reads as least-reads
 use Rattle.month.proofs.room.full.Goals as goal
 
 -- src/room.rt:38:16
@@ -65,7 +62,7 @@ overflow_add-fresh c = omega (arith, c.loop-fresh.invariant.3)
 
 -- src/room.rt:55:38
 pub bounds-numbers-k : goal.bounds-numbers-k
-bounds-numbers-k c = omega (arith, c.least-k.ensures.holds_lines.held_most, c.least-k.auto.1.1.1.1.0, c.loop-fresh.invariant.0)
+bounds-numbers-k c = omega (arith, c.least-k.ensures.holds_lines.held_most, c.least-k.auto.numbers, c.loop-fresh.invariant.0)
 
 -- src/room.rt:55:9
 pub put_line-requires : goal.put_line-requires
@@ -94,7 +91,7 @@ loop-fresh-preserved c =
     let k = simp sub-zero at s.ensures in
     let m = held-least (lines_of (rows_to a.report.now a.rows)) (take l.width l.last) (lines_in (transfers_in a.t.now)) (length l.numbers) k in
     let p = c.put_line in
-    let n = s.auto.1.1.1.1.0 in
-    let w : length p.new.0 ≡ 66 = p.auto.0 ∙ l.invariant.1 in
+    let n = s.auto.numbers in
+    let w : length p.new.line ≡ 66 = p.auto.line ∙ l.invariant.1 in
     let e = held-last (lines_of (rows_to a.report.now a.rows)) (take l.width l.last) (lines_in (transfers_in a.t.now)) (length l.numbers) k n (omega arith) (omega (arith, l.invariant.0)) p.ensures in
-    (n ∙ l.invariant.0, w, omega arith, omega arith, rw (take_all 66 p.new.0 (omega arith)) (omega (arith, e, l.invariant.4)))
+    (n ∙ l.invariant.0, w, omega arith, omega arith, rw (take_all 66 p.new.line (omega arith)) (omega (arith, e, l.invariant.4)))

@@ -8,9 +8,6 @@ use Rattle.month.specs.Bytes.{rows_to, transfers_in}
 use Rattle.month.specs.Lookup.{new_above}
 use Rattle.std.proofs.Common.{◌≡◌, ◌+◌, ◌-◌, ◌/◌, ◌<◌, ◌≤◌, length, take, refl, ◌∙◌, arith, take_all, rules, le-ltb, lt-ltb}
 use native.Mathlib.Nat.{sub-zero}
-use Rattle.month.proofs.room.full.Reads as reads
-use Rattle.month.proofs.line.put_line.Reads as put-line-reads
-use Rattle.month.proofs.room.least.Reads as least-reads
 use Rattle.month.proofs.room.full.Given as goal
 
 abbrev pub invariant-loop-fresh : goal.invariant-loop-fresh

@@ -5,8 +5,6 @@ use Rattle.month.specs.Bytes.{rows_to, transfers_to, transfers_in}
 use Rattle.month.specs.Lookup.{fed_at, new_above}
 use Rattle.month.specs.Standing.{Entered}
 use Rattle.std.proofs.Common.{◌≡◌, ◌-◌, ◌/◌, ◌≤◌, length, take, refl, ◌∙◌, arith}
-use Rattle.month.proofs.room.least.Reads as reads
-use Rattle.month.proofs.new.note_lines.Reads as note-lines-reads
 use Rattle.month.proofs.room.least.Goals as goal
 
 -- src/room.rt:25:5
@@ -28,14 +26,10 @@ loop-i-preserved c =
     let l = c.loop-i in
     let n = c.note_lines-k in (
       omega arith,
-      n.auto.1.1.1.1.1.0 ∙ l.invariant.1,
+      n.auto.numbers ∙ l.invariant.1,
       rw (transfers-more a.t.now l.i)
           (one-gathered (lines_of (rows_to a.report.now a.rows)) a.bound.now (transfers_to a.t.now l.i) (fed_at a.t.now l.i) l.invariant.1 l.invariant.2 n.ensures),
     )
-
--- src/room.rt:16:1
-pub shape_of-numbers : goal.shape_of-numbers
-shape_of-numbers c = c.loop-i.invariant.1
 
 -- src/room.rt:16:1
 pub returns : goal.returns

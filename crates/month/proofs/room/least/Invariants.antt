@@ -5,8 +5,6 @@ use Rattle.month.specs.Bytes.{rows_to, transfers_to, transfers_in}
 use Rattle.month.specs.Lookup.{fed_at, new_above}
 use Rattle.month.specs.Standing.{Entered}
 use Rattle.std.proofs.Common.{◌≡◌, ◌-◌, ◌/◌, ◌≤◌, length, take, refl, ◌∙◌, arith}
-use Rattle.month.proofs.room.least.Reads as reads
-use Rattle.month.proofs.new.note_lines.Reads as note-lines-reads
 use Rattle.month.proofs.room.least.Given as goal
 
 abbrev pub invariant-loop-i : goal.invariant-loop-i

@@ -9,12 +9,6 @@ use Rattle.month.specs.Standing.{Stands}
 use Rattle.month.proofs.Bound.{AllWithin}
 use Rattle.month.proofs.Numbered.{line-own, line-source, line-destination}
 use Rattle.month.proofs.Posts.{lost, found, found_in, found-line, has-not-own, has-own, has-not-source, has-not-destination, has-three, bears-takes, two-takes, takes_two, takes_one, add-stands, Light, whole_by, source_by, fee-most, one-fed, three-fed}
-use Rattle.month.proofs.sums.post.Reads as reads
-use Rattle.month.proofs.line.find.Reads as find-reads
-use Rattle.month.proofs.line.is_summed.Reads as is-summed-reads
-use Rattle.month.proofs.line.put_line.Reads as put-line-reads
-use Rattle.month.proofs.sums.add.Reads as add_reads
-use Rattle.wire.proofs.u64_at.Reads as u64-at-reads
 use Rattle.month.proofs.sums.post.Goals as goal
 use Rattle.month.proofs.sums.post.Goals.{After-add-2, After-add-3, After-add-4, After-find-destination, After-find-own, After-find-source, After-u64_at-fee, Start}
 
@@ -112,19 +106,19 @@ light-source : (c : After-u64_at-fee) → Light (source_by c.u64_at-amount.resul
 light-source c = record { debits_below = omega arith; credits_below = omega arith; fees_below = omega arith; apart_most = omega arith }
 
 -- after the first addition, and after the second
-stands2 : (c : After-add-2) → Stands c.add-2.new.0 (at1 (at2 (at3 (at4 (at5 c))))).args.rows
+stands2 : (c : After-add-2) → Stands c.add-2.new.report (at1 (at2 (at3 (at4 (at5 c))))).args.rows
 stands2 c =
     let u = at5 c in
     let g = at3 (at4 u) in
     let s = at1 (at2 g) in
-    add-stands (buffer s) c.add-2.new.0 s.args.rows (at2 g).find.result (whole_by u.before.u64-at.result u.u64-at2.result) (own_in g) s.pre.1 c.add-2.auto.0 c.add-2.ensures
+    add-stands (buffer s) c.add-2.new.report s.args.rows (at2 g).find.result (whole_by u.before.u64-at.result u.u64-at2.result) (own_in g) s.pre.1 c.add-2.auto.report c.add-2.ensures
 
-room2 : (c : After-add-2) → AllWithin (2 ^ 128 - 2 * 2 ^ 64) 4294967294 (rows_to c.add-2.new.0 (at1 (at2 (at3 (at4 (at5 c))))).args.rows)
+room2 : (c : After-add-2) → AllWithin (2 ^ 128 - 2 * 2 ^ 64) 4294967294 (rows_to c.add-2.new.report (at1 (at2 (at3 (at4 (at5 c))))).args.rows)
 room2 c =
     let u = at5 c in
     let g = at3 (at4 u) in
     let s = at1 (at2 g) in
-    takes_two (buffer s) c.add-2.new.0 s.args.rows (at2 g).find.result (whole_by u.before.u64-at.result u.u64-at2.result) (own_in g) s.pre.1 c.add-2.auto.0 c.add-2.ensures s.pre.2 (light-whole u)
+    takes_two (buffer s) c.add-2.new.report s.args.rows (at2 g).find.result (whole_by u.before.u64-at.result u.u64-at2.result) (own_in g) s.pre.1 c.add-2.auto.report c.add-2.ensures s.pre.2 (light-whole u)
 
 pub returns-then-own-rows : goal.returns-then-own-rows
 returns-then-own-rows c =
@@ -142,7 +136,7 @@ returns-then-not-is_summed c =
     let t = moved s in
     let n = c.if-own-rows.false in
     let q = sym c.is_summed.ensures ∙ c.if-not-is_summed.true in
-    (sym (has-own (rows_to (buffer s) s.args.rows) t q (found (buffer s) s.args.rows (own t) c.find-own.result (own-place (goal.at.returns-then-not-is_summed c).After-find-own) n)), one-fed (buffer s) c.add.new.0 s.args.rows c.find-own.result t s.pre.1 q (found-line (buffer s) s.args.rows (own t) c.find-own.result (own-place (goal.at.returns-then-not-is_summed c).After-find-own) n) c.add.ensures)
+    (sym (has-own (rows_to (buffer s) s.args.rows) t q (found (buffer s) s.args.rows (own t) c.find-own.result (own-place (goal.at.returns-then-not-is_summed c).After-find-own) n)), one-fed (buffer s) c.add.new.report s.args.rows c.find-own.result t s.pre.1 q (found-line (buffer s) s.args.rows (own t) c.find-own.result (own-place (goal.at.returns-then-not-is_summed c).After-find-own) n) c.add.ensures)
 
 pub returns-then-source-rows : goal.returns-then-source-rows
 returns-then-source-rows c =
@@ -182,7 +176,7 @@ add-requires-2 c =
 pub add-requires-3 : goal.add-requires-3
 add-requires-3 c =
     let h = at4 (at5 (goal.at.add-requires-3 c).After-add-2) in
-    (source_in h, omega arith, stands2 (goal.at.add-requires-3 c).After-add-2, two-takes (rows_to c.add-2.new.0 (at1 (at2 (at3 h))).args.rows) (room2 (goal.at.add-requires-3 c).After-add-2))
+    (source_in h, omega arith, stands2 (goal.at.add-requires-3 c).After-add-2, two-takes (rows_to c.add-2.new.report (at1 (at2 (at3 h))).args.rows) (room2 (goal.at.add-requires-3 c).After-add-2))
 
 pub overflow_sub-amount-2 : goal.overflow_sub-amount-2
 overflow_sub-amount-2 c = fee-below (at5 (at6 (goal.at.overflow_sub-amount-2 c).After-add-3))
@@ -194,7 +188,7 @@ add-requires-4 c =
     let h = at4 u in
     let n = (at1 (at2 (at3 h))).args.rows in
     let x = source_by u.before.u64-at.result in
-    (destination-in u, omega arith, add-stands d.add2.last.0 c.add-3.new.0 n (at3 h).find2.result x (source_in h) (stands2 d) c.add-3.auto.0 c.add-3.ensures, takes_one d.add2.last.0 c.add-3.new.0 n (at3 h).find2.result x (source_in h) (stands2 d) c.add-3.auto.0 c.add-3.ensures (room2 d) (light-source u))
+    (destination-in u, omega arith, add-stands d.add2.last.0 c.add-3.new.report n (at3 h).find2.result x (source_in h) (stands2 d) c.add-3.auto.report c.add-3.ensures, takes_one d.add2.last.0 c.add-3.new.report n (at3 h).find2.result x (source_in h) (stands2 d) c.add-3.auto.report c.add-3.ensures (room2 d) (light-source u))
 
 pub returns : goal.returns
 returns c =
@@ -214,4 +208,4 @@ returns c =
     let o' = found-line b n (own t) f.find.result (own-place f) (own-there g) in
     let p' = found-line b n (source_line t) g.find2.result (source-place g) (source-there h) in
     let q' = found-line b n (destination_line t) h.find3.result (destination-place h) (destination-there u) in
-    (sym (has-three (rows_to b n) t (is-summed g) o p q), three-fed b d.add2.last.0 y.add3.last.0 c.add-4.new.0 n f.find.result g.find2.result h.find3.result s.args.t.now s.args.i u.before.u64-at.result u.u64-at2.result s.pre.1 (own_in g) (source_in h) d.add2.kept.0 (is-summed g) u.before.u64-at.ensures u.u64-at2.ensures o' p' q' d.add2.ensures y.add3.ensures c.add-4.ensures)
+    (sym (has-three (rows_to b n) t (is-summed g) o p q), three-fed b d.add2.last.0 y.add3.last.0 c.add-4.new.report n f.find.result g.find2.result h.find3.result s.args.t.now s.args.i u.before.u64-at.result u.u64-at2.result s.pre.1 (own_in g) (source_in h) d.add2.kept.0 (is-summed g) u.before.u64-at.ensures u.u64-at2.ensures o' p' q' d.add2.ensures y.add3.ensures c.add-4.ensures)
