@@ -35,12 +35,12 @@ rows_then c =
 -- the report with the empty rows
 made :
     (c : After-put_in)
-    → rows_to c.put_in.new.report (c.args.rows + c.gather-k.result) ≡ add_rows (old c) (empty_rows (fresh (old c) (waits c)))
+    → rows_to c.put_in.new.report (c.args.rows + c.gather-k.result) ≡ add_rows (rows_to c.args.report.now c.args.rows) (empty_rows (fresh (rows_to c.args.report.now c.args.rows) (transfers_at c.args.t.now (take c.args.count c.args.wait.now))))
 made c =
     let g = c.gather-k in
     let a = c.args in
     let p = c.requires in
-    c.put_in.ensures ∙ admit-rows (old c) a.t.now a.wait.now g.new.numbers a.count g.result p.2 p.1 g.ensures
+    c.put_in.ensures ∙ admit-rows (rows_to a.report.now a.rows) a.t.now a.wait.now g.new.numbers a.count g.result p.2 p.1 g.ensures
 
 pub returns-then-count-eq0 : goal.returns-then-count-eq0
 returns-then-count-eq0 c =

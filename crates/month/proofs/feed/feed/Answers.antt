@@ -71,7 +71,7 @@ admit-used-requires c =
       w.ensures.wait_there,
       bears-less w.result.waiting (length a.t.now / 150 - w.result.to + w.result.waiting) (rows_to w.new.report l.used) (omega arith) w.ensures.bears_after,
       omega
-          (arith, ap (λ (m : Report). used m) (w.ensures.fed_later ∙ (fed-on @AT:After_walk@).0), room-part (old (goal.at.admit-used-requires c).After-walk-walked) a.t.now w.result.to w.ensures.in_table, p.3, l.invariant.2, w.auto.report),
+          (arith, ap (λ (m : Report). used m) (w.ensures.fed_later ∙ (fed-on (goal.at.admit-used-requires c).After-walk-walked).0), room-part (old (goal.at.admit-used-requires c).After-walk-walked) a.t.now w.result.to w.ensures.in_table, p.3, l.invariant.2, w.auto.report),
     )
 
 pub loop-from-smaller : goal.loop-from-smaller
@@ -82,7 +82,7 @@ loop-from-preserved c =
     let q = c.admit-used in
     let w = c.walk-walked in
     let l = c.loop-from in
-    let s = fed-on @AT:After_walk@ in
+    let s = fed-on (goal.at.loop-from-preserved c).After-walk-walked in
     let e = q.ensures.0 ∙ w.ensures.fed_later in
     (w.ensures.in_table, w.auto.wait ∙ l.invariant.1, q.auto.report ∙ w.auto.report ∙ l.invariant.2, e ∙ s.0, rw e s.1)
 

@@ -41,11 +41,10 @@ loop-i-preserved c =
     let q = c.post in
     let h = c.loop-i-test.true in
     let l = c.loop-i in
-    let k = c.shared_slice_known-1 in
     let a = c.args in
     let p = c.requires in
     let s = posted (rows_to a.report.now a.rows) (rows_to l.report a.rows) (rows_to q.new.report a.rows) a.t.now a.wait.now a.count l.i q.result
-    (λ j. omega (arith, k.given j)) h p.1 p.2 p.3 p.5 l.invariant.2 l.invariant.3 q.ensures.0 q.ensures.1 in
+    (λ j. omega (arith, c.type_inv.t j)) h p.1 p.2 p.3 p.5 l.invariant.2 l.invariant.3 q.ensures.0 q.ensures.1 in
     (omega arith, q.auto.report ∙ l.invariant.1, s.0, s.1)
 
 pub returns : goal.returns

@@ -1,7 +1,6 @@
 -- Each transfer is posted or waits; fed into what is there, those that wait give what all so far give.
 use Rattle.std.proofs.Common.{◌≡◌, suc, ◌+◌, ◌-◌, ◌*◌, ◌/◌, ◌<◌, ◌≤◌, [], ◌∷◌, length, take, sym, refl, ap, ◌∙◌, ⊎_elim, arith, length-set}
 use mathlib.Core.List.Memᴰ
-use borrow.Author.Tests.{not-true, not-false}
 use Rattle.month.specs.Report.{Sorted, fed_into}
 use Rattle.month.specs.Bytes.{rows_to}
 use Rattle.month.specs.Lookup.{fed_at, transfers_at, transfers_from}
@@ -11,7 +10,7 @@ use Rattle.month.proofs.Reading.{transfer-formed}
 use Rattle.month.proofs.Bearing.{bears-less, bears-fed}
 use Rattle.month.proofs.Batches.{from-none, step-posts, step_waits, places-more}
 use Rattle.month.proofs.feed.walk.Goals as goal
-use Rattle.month.proofs.feed.walk.Goals.{At-loop-i}
+use Rattle.month.proofs.feed.walk.Goals.{At-loop-i, then-not-post, else-not-post}
 
 pub loop-i-init : goal.loop-i-init
 loop-i-init c =
@@ -43,7 +42,6 @@ pub loop-i-preserved : goal.loop-i-preserved
 loop-i-preserved c =
     let q = c.post in
     let l = c.loop-i in
-    let k = c.shared_slice_known-1 in
     let a = c.args in
     let p = c.requires in
     let r = rows_to a.report.now a.rows in
@@ -51,10 +49,10 @@ loop-i-preserved c =
     let next = rows_to q.new.report a.rows in
     let n = length a.t.now / 150 in
     let x = fed_at a.t.now l.i in
-    ⊎_elim
-    (λ w.
-    let e : next ≡ cur = q.ensures.1 ∙ rw (not-true q.result w.0.taken) in
-    rw (w.1, w.2) (
+    elim c.if-not-post.branch [
+      then-not-post w ↦
+    let e : next ≡ cur = q.ensures.1 ∙ rw w.if-not-post.true in
+    rw (w.wait-is, w.waiting-is) (
       omega arith,
       omega arith,
       omega (arith, length-set l.wait l.waiting l.i),
@@ -64,10 +62,10 @@ loop-i-preserved c =
       step_waits r cur next a.t.now l.wait a.from l.waiting l.i l.invariant.6 (omega arith) e (omega arith),
       rw e l.invariant.7,
       rw e (bears-less (n - (l.i + 1) + (l.waiting + 1)) (n - l.i + l.waiting) cur (omega arith) l.invariant.8),
-    ))
-    (λ w.
-    let e : next ≡ fed_into cur (x ∷ []) = q.ensures.1 ∙ rw (not-false q.result w.0.left) in
-    rw (w.1, w.2) (
+    )
+    | else-not-post w ↦
+    let e : next ≡ fed_into cur (x ∷ []) = q.ensures.1 ∙ rw w.if-not-post.false in
+    rw (w.wait-is, w.waiting-is) (
       omega arith,
       omega arith,
       l.invariant.2,
@@ -76,10 +74,10 @@ loop-i-preserved c =
       l.invariant.5,
       step-posts r cur next a.t.now l.wait a.from l.waiting l.i l.invariant.6 (omega arith) e,
       rw e (fed-sorted cur (x ∷ [])),
-      rw e (bears-fed (n - (l.i + 1) + l.waiting) (transfer-formed a.t.now (l.i * 150) (λ j. omega (arith, k.given j)) (omega arith)) l.invariant.7 (omega (arith, p.4))
+      rw e (bears-fed (n - (l.i + 1) + l.waiting) (transfer-formed a.t.now (l.i * 150) (λ j. omega (arith, c.type_inv.t j)) (omega arith)) l.invariant.7 (omega (arith, p.4))
           (bears-less (suc (n - (l.i + 1) + l.waiting)) (n - l.i + l.waiting) cur (omega arith) l.invariant.8)),
-    ))
-    c.if-not-post.branch
+    )
+    ]
 
 -- what the invariant says, once a transfer is passed
 walked :
