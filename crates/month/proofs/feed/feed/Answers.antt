@@ -23,8 +23,7 @@ fed-on :
 fed-on c =
     let w = c.walk-walked.ensures in
     let l = c.loop-from in
-    let k = c.shared_slice_known-1 in
-    batch (old c) (rows_to l.report l.used) c.args.t.now l.from c.walk-walked.result.to (λ j. omega (arith, k.given j)) w.further w.in_table c.requires.1 l.invariant.3 l.invariant.4
+    batch (old c) (rows_to l.report l.used) c.args.t.now l.from c.walk-walked.result.to (λ j. omega (arith, c.type_inv.t j)) w.further w.in_table c.requires.1 l.invariant.3 l.invariant.4
 
 pub loop-from-init : goal.loop-from-init
 loop-from-init c =

@@ -6,4 +6,4 @@ use Rattle.month.proofs.good.small.Goals as goal
 pub returns : goal.returns
 returns c =
     let a = c.args in
-    rw c.u64_at.ensures (sym (small-high a.report.now a.at (λ i. omega (arith, c.shared_slice_known-1.given i))))
+    rw c.u64_at.ensures (sym (small-high a.report.now a.at (λ i. omega (arith, c.type_inv.report i))))
