@@ -55,4 +55,4 @@ returns c =
     let d = f.new.report in
     let u = f.result in
     rw (c.clear.ensures, tail-cleared d (u * 118) (omega (arith, p.room, f.ensures.1, f.auto.report)))
-    (passed-feeds p d u f.ensures.0 f.ensures.1 (λ i. omega (arith, c.slice_known-2-1.given i)) f.auto.report)
+    (passed-feeds p d u f.ensures.0 f.ensures.1 (λ i. search rules) f.auto.report)

@@ -1,6 +1,6 @@
 -- The bytes from i on stand at their new place, and what lies before i is as it was.
 -- Assumes nothing.
-use Rattle.std.proofs.Common.{◌≡◌, ◌+◌, ◌-◌, ◌≤◌, length, take, drop, refl, ◌∙◌, arith, length-set}
+use Rattle.std.proofs.Common.{◌≡◌, ◌+◌, ◌-◌, ◌≤◌, length, take, drop, refl, ◌∙◌, arith, length-set, rules}
 use lib.Seq.{sets, length-sets}
 use Rattle.month.proofs.Moves.{move-more, move-eight, move-one}
 use Rattle.month.proofs.empty.shift.Goals as goal
@@ -15,7 +15,7 @@ pub loop-i-preserved : goal.loop-i-preserved
 loop-i-preserved c =
     let l = c.loop-i in
     let a = c.args in
-    (omega arith, omega arith, rw (c.put_u64.ensures, length-sets) l.invariant.2, rw (c.put_u64.ensures, c.u64_at-word.ensures) (move-eight a.d.now l.d a.to a.by (l.i - 8) l.i (omega arith) (omega arith) (omega arith) (λ k. omega (arith, c.slice_known-1.given k)) l.invariant.3))
+    (omega arith, omega arith, rw (c.put_u64.ensures, length-sets) l.invariant.2, rw (c.put_u64.ensures, c.u64_at-word.ensures) (move-eight a.d.now l.d a.to a.by (l.i - 8) l.i (omega arith) (omega arith) (omega arith) (λ k. search rules) l.invariant.3))
 
 pub loop-i-2-init : goal.loop-i-2-init
 loop-i-2-init c =
