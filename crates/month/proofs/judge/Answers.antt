@@ -1,6 +1,5 @@
 -- The tests are made in the order of `feed`, and each has its law in Answers.
-use Rattle.std.proofs.Common.{◌≡◌, ◌+◌, true, length, sym, ap, ◌∙◌, arith, rules, ltb-false, lt-ltb}
-use borrow.Author.Tests.{not-true, not-false}
+use Rattle.std.proofs.Common.{◌≡◌, ◌+◌, true, length, sym, ap, ◌∙◌, arith, ltb-false, lt-ltb}
 use Rattle.month.specs.Bytes.{transfers_in, Books, stays, holds, good_table, good_report}
 use Rattle.month.proofs.Answers.{Passed, transfers-count, refused-19, refused-20, refused-9, refused-10, passed-holds, good-stands}
 use Rattle.month.proofs.judge.Goals as goal

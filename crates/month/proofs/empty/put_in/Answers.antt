@@ -1,10 +1,8 @@
 -- What the rows left and the lines left give together, before the rows that are done, is always what all of them give. Each turn puts in the last line left.
 -- Assumes nothing.
-use Rattle.std.proofs.Common.{◌≡◌, ◌+◌, ◌-◌, ◌*◌, ◌≤◌, false, ◌++◌, length, get_or, take, drop, sym, refl, ap, ◌∙◌, append-nil, arith}
-use mathlib.Core.List.{Memᴰ}
-use Rattle.month.specs.Transfers.{Line}
-use Rattle.month.specs.Report.{Report, Sorted, lines_of}
-use Rattle.month.specs.Adding.{add_rows, among}
+use Rattle.std.proofs.Common.{◌≡◌, ◌+◌, ◌-◌, ◌*◌, ◌≤◌, ◌++◌, length, get_or, take, sym, refl, ap, ◌∙◌, append-nil, arith}
+use Rattle.month.specs.Report.{Report, lines_of}
+use Rattle.month.specs.Adding.{add_rows}
 use Rattle.month.specs.Bytes.{rows_to}
 use Rattle.month.specs.Lookup.{spot_of, line_numbered, lines_numbered, empty_rows}
 use Rattle.month.proofs.Views.{lines-length, rows-part}

@@ -1,16 +1,12 @@
 -- What the rows left and the lines left give together, before the rows that are done, is always what all of them give. Each turn puts in the last line left.
 -- Assumes nothing.
-use Rattle.std.proofs.Common.{◌≡◌, ◌+◌, ◌-◌, ◌*◌, ◌≤◌, false, ◌++◌, length, get_or, take, drop, sym, refl, ap, ◌∙◌, append-nil, arith}
+use Rattle.std.proofs.Common.{◌≡◌, ◌+◌, ◌≤◌, false, ◌++◌, length, take, drop}
 use mathlib.Core.List.{Memᴰ}
 use Rattle.month.specs.Transfers.{Line}
-use Rattle.month.specs.Report.{Report, Sorted, lines_of}
+use Rattle.month.specs.Report.{Sorted, lines_of}
 use Rattle.month.specs.Adding.{add_rows, among}
 use Rattle.month.specs.Bytes.{rows_to}
-use Rattle.month.specs.Lookup.{spot_of, line_numbered, lines_numbered, empty_rows}
-use Rattle.month.proofs.Views.{lines-length, rows-part}
-use Rattle.month.proofs.Spots.{spot-most}
-use Rattle.month.proofs.Noting.{held_at}
-use Rattle.month.proofs.Merging.{put_in, front-sorted, front-among, rows_before, put_step, rows_none, rows_whole, lines_next, lines-below, line-held}
+use Rattle.month.specs.Lookup.{lines_numbered, empty_rows}
 use Rattle.month.proofs.empty.put_in.Given as goal
 
 abbrev pub invariant-loop-j : goal.invariant-loop-j

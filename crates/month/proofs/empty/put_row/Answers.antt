@@ -1,6 +1,6 @@
 -- The line, and right behind it the part that was lent and came back zero.
 -- Assumes nothing.
-use Rattle.std.proofs.Common.{◌≡◌, ◌+◌, ◌-◌, length, take, drop, ◌∙◌, arith, length-drop, length-take-le, rules}
+use Rattle.std.proofs.Common.{◌≡◌, ◌+◌, ◌-◌, length, take, drop, ◌∙◌, arith, length-drop, length-take-le}
 use lib.Seq.{sets, length-sets}
 use Rattle.wire.specs.Zeros.{zeros}
 use Rattle.wire.proofs.Sets.{sets-next}

@@ -1,7 +1,7 @@
 -- The bytes from i on stand at their new place, and what lies before i is as it was.
 -- Assumes nothing.
-use Rattle.std.proofs.Common.{◌≡◌, ◌+◌, ◌-◌, ◌≤◌, length, take, drop, refl, ◌∙◌, arith, length-set, rules}
-use lib.Seq.{sets, length-sets}
+use Rattle.std.proofs.Common.{◌≡◌, ◌-◌, refl, ◌∙◌, arith, length-set, rules}
+use lib.Seq.{length-sets}
 use Rattle.month.proofs.Moves.{move-more, move-eight, move-one}
 use Rattle.month.proofs.empty.shift.Goals as goal
 

@@ -1,8 +1,7 @@
 -- The bytes from i on stand at their new place, and what lies before i is as it was.
 -- Assumes nothing.
-use Rattle.std.proofs.Common.{◌≡◌, ◌+◌, ◌-◌, ◌≤◌, length, take, drop, refl, ◌∙◌, arith, length-set}
-use lib.Seq.{sets, length-sets}
-use Rattle.month.proofs.Moves.{move-more, move-eight, move-one}
+use Rattle.std.proofs.Common.{◌≡◌, ◌+◌, ◌-◌, ◌≤◌, length, take, drop}
+use lib.Seq.{sets}
 use Rattle.month.proofs.empty.shift.Given as goal
 
 abbrev pub invariant-loop-i : goal.invariant-loop-i

@@ -1,5 +1,5 @@
 -- The lines that waiting transfers bring get empty rows, which change no sum; then the report has all their lines, and they are posted.
-use Rattle.std.proofs.Common.{◌≡◌, ◌+◌, List, take, sym, ap, ◌∙◌, arith, rules}
+use Rattle.std.proofs.Common.{◌≡◌, ◌+◌, List, take, sym, ap, ◌∙◌, arith}
 use Rattle.month.specs.Transfers.{FedTransfer}
 use Rattle.month.specs.Report.{Report, used, fed_into}
 use Rattle.month.specs.Adding.{add_rows}
@@ -78,8 +78,7 @@ post_waiting-requires c =
     )
 
 pub returns : goal.returns
-returns c =
-    (
-      c.post_waiting.ensures ∙ ap (λ (s : Report). fed_into s (waits (goal.at.returns c).After-gather-k)) (made (goal.at.returns c).After-put_in) ∙ admitted-fed (old (goal.at.returns c).After-gather-k) (waits (goal.at.returns c).After-gather-k),
-      rows_then (goal.at.returns c).After-gather-k,
-    )
+returns c = (
+  c.post_waiting.ensures ∙ ap (λ (s : Report). fed_into s (waits (goal.at.returns c).After-gather-k)) (made (goal.at.returns c).After-put_in) ∙ admitted-fed (old (goal.at.returns c).After-gather-k) (waits (goal.at.returns c).After-gather-k),
+  rows_then (goal.at.returns c).After-gather-k,
+)

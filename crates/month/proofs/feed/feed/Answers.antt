@@ -1,5 +1,5 @@
 -- Each turn feeds the transfers from one place to the next: a walk posts some, and those that wait are admitted.
-use Rattle.std.proofs.Common.{◌≡◌, ◌+◌, ◌-◌, ◌/◌, ◌≤◌, length, sym, refl, ap, ◌∙◌, arith}
+use Rattle.std.proofs.Common.{◌≡◌, ◌+◌, ◌-◌, ◌/◌, length, sym, refl, ap, ◌∙◌, arith}
 use Rattle.month.specs.Report.{Report, used, fed_into}
 use Rattle.month.specs.Bytes.{rows_to, transfers_to}
 use Rattle.month.specs.Lookup.{transfers_from}

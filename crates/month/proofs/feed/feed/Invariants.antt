@@ -1,12 +1,8 @@
 -- Each turn feeds the transfers from one place to the next: a walk posts some, and those that wait are admitted.
-use Rattle.std.proofs.Common.{◌≡◌, ◌+◌, ◌-◌, ◌/◌, ◌≤◌, length, sym, refl, ap, ◌∙◌, arith}
-use Rattle.month.specs.Report.{Report, used, fed_into}
+use Rattle.std.proofs.Common.{◌≡◌, ◌-◌, ◌/◌, ◌≤◌, length}
+use Rattle.month.specs.Report.{fed_into}
 use Rattle.month.specs.Bytes.{rows_to, transfers_to}
-use Rattle.month.specs.Lookup.{transfers_from}
 use Rattle.month.specs.Standing.{Bears}
-use Rattle.month.proofs.Views.{rows-length}
-use Rattle.month.proofs.Bearing.{bears-less}
-use Rattle.month.proofs.Batches.{stands-fed, fed-start, to_end, room-part, batch}
 use Rattle.month.proofs.feed.feed.Given as goal
 
 abbrev pub invariant-loop-from : goal.invariant-loop-from

@@ -1,13 +1,9 @@
 -- Each turn feeds one waiting transfer: `post` adds it, since the report has its lines from the start and keeps them.
-use Rattle.std.proofs.Common.{◌≡◌, ◌-◌, ◌≤◌, length, take, sym, refl, ◌∙◌, arith}
+use Rattle.std.proofs.Common.{◌≡◌, ◌-◌, ◌≤◌, length, take}
 use Rattle.month.specs.Report.{fed_into}
 use Rattle.month.specs.Bytes.{rows_to}
 use Rattle.month.specs.Lookup.{transfers_at}
 use Rattle.month.specs.Standing.{Bears}
-use Rattle.month.proofs.Reports.{fed-nothing}
-use Rattle.month.proofs.Gathering.{place_in}
-use Rattle.month.proofs.Bearing.{bears-less}
-use Rattle.month.proofs.Batches.{stands-fed, posted}
 use Rattle.month.proofs.feed.post_waiting.Given as goal
 
 abbrev pub invariant-loop-i : goal.invariant-loop-i

@@ -1,10 +1,10 @@
 -- Each transfer is posted or waits; fed into what is there, those that wait give what all so far give.
-use Rattle.std.proofs.Common.{◌≡◌, suc, ◌+◌, ◌-◌, ◌*◌, ◌/◌, ◌<◌, ◌≤◌, [], ◌∷◌, length, take, sym, refl, ap, ◌∙◌, ⊎_elim, arith, length-set}
+use Rattle.std.proofs.Common.{◌≡◌, suc, ◌+◌, ◌-◌, ◌*◌, ◌/◌, ◌<◌, [], ◌∷◌, length, sym, refl, ap, ◌∙◌, arith, length-set}
 use mathlib.Core.List.Memᴰ
-use Rattle.month.specs.Report.{Sorted, fed_into}
+use Rattle.month.specs.Report.{fed_into}
 use Rattle.month.specs.Bytes.{rows_to}
-use Rattle.month.specs.Lookup.{fed_at, transfers_at, transfers_from}
-use Rattle.month.specs.Standing.{Bears, PlacesIn, Walked}
+use Rattle.month.specs.Lookup.{fed_at}
+use Rattle.month.specs.Standing.{Walked}
 use Rattle.month.proofs.Reports.{fed-sorted}
 use Rattle.month.proofs.Reading.{transfer-formed}
 use Rattle.month.proofs.Bearing.{bears-less, bears-fed}
@@ -50,33 +50,33 @@ loop-i-preserved c =
     let n = length a.t.now / 150 in
     let x = fed_at a.t.now l.i in
     elim c.if-not-post.branch [
-      then-not-post w ↦
-    let e : next ≡ cur = q.ensures.1 ∙ rw w.if-not-post.true in
-    rw (w.wait-is, w.waiting-is) (
-      omega arith,
-      omega arith,
-      omega (arith, length-set l.wait l.waiting l.i),
-      length-set l.wait l.waiting l.i ∙ l.invariant.3,
-      q.auto.report ∙ l.invariant.4,
-      places-more a.t.now l.wait l.waiting l.i (omega arith) (omega arith) l.invariant.5,
-      step_waits r cur next a.t.now l.wait a.from l.waiting l.i l.invariant.6 (omega arith) e (omega arith),
-      rw e l.invariant.7,
-      rw e (bears-less (n - (l.i + 1) + (l.waiting + 1)) (n - l.i + l.waiting) cur (omega arith) l.invariant.8),
-    )
-    | else-not-post w ↦
-    let e : next ≡ fed_into cur (x ∷ []) = q.ensures.1 ∙ rw w.if-not-post.false in
-    rw (w.wait-is, w.waiting-is) (
-      omega arith,
-      omega arith,
-      l.invariant.2,
-      l.invariant.3,
-      q.auto.report ∙ l.invariant.4,
-      l.invariant.5,
-      step-posts r cur next a.t.now l.wait a.from l.waiting l.i l.invariant.6 (omega arith) e,
-      rw e (fed-sorted cur (x ∷ [])),
-      rw e (bears-fed (n - (l.i + 1) + l.waiting) (transfer-formed a.t.now (l.i * 150) (λ j. omega (arith, c.type_inv.t j)) (omega arith)) l.invariant.7 (omega (arith, p.4))
-          (bears-less (suc (n - (l.i + 1) + l.waiting)) (n - l.i + l.waiting) cur (omega arith) l.invariant.8)),
-    )
+      | then-not-post w ↦
+          let e : next ≡ cur = q.ensures.1 ∙ rw w.if-not-post.true in
+          rw (w.wait-is, w.waiting-is) (
+            omega arith,
+            omega arith,
+            omega (arith, length-set l.wait l.waiting l.i),
+            length-set l.wait l.waiting l.i ∙ l.invariant.3,
+            q.auto.report ∙ l.invariant.4,
+            places-more a.t.now l.wait l.waiting l.i (omega arith) (omega arith) l.invariant.5,
+            step_waits r cur next a.t.now l.wait a.from l.waiting l.i l.invariant.6 (omega arith) e (omega arith),
+            rw e l.invariant.7,
+            rw e (bears-less (n - (l.i + 1) + (l.waiting + 1)) (n - l.i + l.waiting) cur (omega arith) l.invariant.8),
+          )
+      | else-not-post w ↦
+          let e : next ≡ fed_into cur (x ∷ []) = q.ensures.1 ∙ rw w.if-not-post.false in
+          rw (w.wait-is, w.waiting-is) (
+            omega arith,
+            omega arith,
+            l.invariant.2,
+            l.invariant.3,
+            q.auto.report ∙ l.invariant.4,
+            l.invariant.5,
+            step-posts r cur next a.t.now l.wait a.from l.waiting l.i l.invariant.6 (omega arith) e,
+            rw e (fed-sorted cur (x ∷ [])),
+            rw e (bears-fed (n - (l.i + 1) + l.waiting) (transfer-formed a.t.now (l.i * 150) (λ j. omega (arith, c.type_inv.t j)) (omega arith)) l.invariant.7 (omega (arith, p.4))
+                (bears-less (suc (n - (l.i + 1) + l.waiting)) (n - l.i + l.waiting) cur (omega arith) l.invariant.8)),
+          )
     ]
 
 -- what the invariant says, once a transfer is passed

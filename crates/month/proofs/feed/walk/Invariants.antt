@@ -1,15 +1,9 @@
 -- Each transfer is posted or waits; fed into what is there, those that wait give what all so far give.
-use Rattle.std.proofs.Common.{◌≡◌, suc, ◌+◌, ◌-◌, ◌*◌, ◌/◌, ◌<◌, ◌≤◌, [], ◌∷◌, length, take, sym, refl, ap, ◌∙◌, ⊎_elim, arith, length-set}
-use mathlib.Core.List.Memᴰ
-use borrow.Author.Tests.{not-true, not-false}
+use Rattle.std.proofs.Common.{◌≡◌, ◌+◌, ◌-◌, ◌/◌, ◌≤◌, length, take}
 use Rattle.month.specs.Report.{Sorted, fed_into}
 use Rattle.month.specs.Bytes.{rows_to}
-use Rattle.month.specs.Lookup.{fed_at, transfers_at, transfers_from}
-use Rattle.month.specs.Standing.{Bears, PlacesIn, Walked}
-use Rattle.month.proofs.Reports.{fed-sorted}
-use Rattle.month.proofs.Reading.{transfer-formed}
-use Rattle.month.proofs.Bearing.{bears-less, bears-fed}
-use Rattle.month.proofs.Batches.{from-none, step-posts, step_waits, places-more}
+use Rattle.month.specs.Lookup.{transfers_at, transfers_from}
+use Rattle.month.specs.Standing.{Bears, PlacesIn}
 use Rattle.month.proofs.feed.walk.Given as goal
 
 abbrev pub invariant-loop-i : goal.invariant-loop-i

@@ -1,7 +1,7 @@
 -- As long as the loop runs, the rows passed are good, and the lines up to the next one rise.
-use Rattle.std.proofs.Common.{◌≡◌, suc, ◌+◌, ◌-◌, ◌*◌, ◌<◌, ◌≤◌, true, sym, ◌∙◌, ⊎_elim, add-one, arith, rules}
+use Rattle.std.proofs.Common.{◌≡◌, suc, ◌+◌, ◌*◌, ◌<◌, true, sym, ◌∙◌, add-one, arith}
 use borrow.Author.Tests.{lt-leb}
-use Rattle.month.specs.Bytes.{report_row_at, rows_to, rises, good_row, good_rows, good_report}
+use Rattle.month.specs.Bytes.{report_row_at, rows_to, rises, good_row, good_report}
 use Rattle.month.proofs.Prefixes.{goods-none, goods-next, rises_next, lines_at, rises-none, rises-one, report-cut, report-falls, report-whole}
 use Rattle.month.proofs.good.report.Goals as goal
 use Rattle.month.proofs.good.report.Goals.{else-i-rows-via-then-i-rows+else-not-less, else-i-rows-via-else-i-rows}
@@ -37,8 +37,8 @@ loop-i-preserved c =
     let up : rises (rows_to b (suc l.i)) ≡ true = l.invariant.3 (omega arith) in
     let next : l.i + 1 < a.rows → rises (rows_to b (suc (suc l.i))) ≡ true
     = λ h. elim c.else-i-rows.branch [
-      else-i-rows-via-then-i-rows+else-not-less w ↦ rises_next b l.i ∙ rw (up, ← lines_at b l.i, ← w.less.ensures) w.if-not-less.false
-    | else-i-rows-via-else-i-rows w ↦ absurd (omega arith)
+      | else-i-rows-via-then-i-rows+else-not-less w ↦ rises_next b l.i ∙ rw (up, ← lines_at b l.i, ← w.less.ensures) w.if-not-less.false
+      | else-i-rows-via-else-i-rows w ↦ absurd (omega arith)
     ] in
     rw (add-one l.i) (omega arith, goods-next a.fed b l.i ∙ rw (l.invariant.1, good), up, λ h. next (omega arith))
 

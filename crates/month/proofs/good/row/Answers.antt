@@ -1,5 +1,5 @@
 -- `row-tests` has the tests of a row by its bytes, in the order in which they are made here.
-use Rattle.std.proofs.Common.{sym, ◌∙◌, rules, le-leb}
+use Rattle.std.proofs.Common.{sym, ◌∙◌, le-leb}
 use borrow.Author.Tests.{lt-leb}
 use Rattle.month.proofs.Prefixes.{row-tests}
 use Rattle.month.proofs.good.row.Goals as goal

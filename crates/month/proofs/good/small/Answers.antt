@@ -1,5 +1,5 @@
 -- The low half is below 2 to the 64th, so the high half tells (`small-high`).
-use Rattle.std.proofs.Common.{sym, arith, rules}
+use Rattle.std.proofs.Common.{sym, arith}
 use Rattle.month.proofs.Prefixes.{small-high}
 use Rattle.month.proofs.good.small.Goals as goal
 

@@ -1,5 +1,5 @@
 -- As long as the loop runs, all flags passed are good; one that is not makes the table bad (`table-cut`).
-use Rattle.std.proofs.Common.{◌≡◌, ◌+◌, ◌-◌, ◌*◌, ◌≤◌, true, leb, get_or, sym, refl, add-one, arith, ne_eqb, le-leb}
+use Rattle.std.proofs.Common.{◌+◌, ◌*◌, leb, get_or, sym, refl, add-one, arith, ne_eqb, le-leb}
 use mathlib.Core.Bool.{and-false}
 use borrow.Author.Tests.{lt-leb}
 use Rattle.month.specs.Bytes.{flags_to, good_table}

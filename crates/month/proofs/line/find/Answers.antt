@@ -1,5 +1,5 @@
 -- A line can stand only at its spot, because lines ascend.
-use Rattle.std.proofs.Common.{◌≡◌, ℕ, true, false, [], get_or, sym, ◌∙◌, subst, arith, rules}
+use Rattle.std.proofs.Common.{◌≡◌, ℕ, true, false, [], get_or, sym, ◌∙◌, subst, arith}
 use native.Mathlib.Nat.{add-sub_cancel_left}
 use Rattle.wire.specs.Same.{same}
 use Rattle.month.specs.Report.{lines_of}

@@ -1,5 +1,5 @@
 -- The flag first, then the two numbers, as `summed` tests them.
-use Rattle.std.proofs.Common.{◌*◌, sym, rules}
+use Rattle.std.proofs.Common.{◌*◌, sym}
 use Rattle.month.proofs.Numbered.{summed-not, summed_by}
 use Rattle.month.proofs.line.is_summed.Goals as goal
 

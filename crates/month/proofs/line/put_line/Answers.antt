@@ -1,5 +1,5 @@
 -- After the first test the line is the mint and zeros; an account goes behind its flag.
-use Rattle.std.proofs.Common.{◌≡◌, ℕ, ◌+◌, ◌-◌, ◌*◌, ◌/◌, ◌%◌, ◌≤◌, List, ◌++◌, length, get_or, take, drop, set, sym, ap, ◌∙◌, ap₂, arith, length-append, length-drop, length-set, length-take-le, rules}
+use Rattle.std.proofs.Common.{◌≡◌, ℕ, ◌+◌, ◌-◌, ◌*◌, ◌/◌, ◌%◌, ◌≤◌, List, ◌++◌, length, get_or, take, drop, set, sym, ap, ◌∙◌, ap₂, arith, length-append, length-drop, length-take-le}
 use native.Mathlib.Nat.{add-sub_cancel_left}
 use lib.Seq.{sets}
 use Rattle.wire.specs.Zeros.{zeros}
@@ -19,10 +19,11 @@ laid d t n z h q =
 first : (c : Joined-t-at-eq1) → c.if-t-at-eq1.line ≡ (fed_at c.args.t.now (c.args.n / 3)).mint ++ zeros 33
 first c =
     let a = c.args in
+    -- cleared: zeros of the line's length
     let cleared : c.clear.new.d ≡ zeros 66 = c.clear.ensures ∙ ap zeros c.requires.0 in
     elim c.if-t-at-eq1.branch [
-      then-t-at-eq1 w ↦ w.line-is ∙ w.put.ensures ∙ laid c.clear.new.d a.t.now a.n cleared c.requires.1 w.if-t-at-eq1.true
-    | else-t-at-eq1 w ↦ w.line-is ∙ cleared ∙ mint-none a.t.now (a.n / 3 * 150) w.if-t-at-eq1.false
+      | then-t-at-eq1 w ↦ w.line-is ∙ w.put.ensures ∙ laid c.clear.new.d a.t.now a.n cleared c.requires.1 w.if-t-at-eq1.true
+      | else-t-at-eq1 w ↦ w.line-is ∙ cleared ∙ mint-none a.t.now (a.n / 3 * 150) w.if-t-at-eq1.false
     ]
 
 long : (c : Joined-t-at-eq1) → length c.if-t-at-eq1.line ≡ 66

@@ -1,12 +1,8 @@
 -- All lines before `low` are below, the one at `high` and all behind it are not, because they ascend; where the two meet is the spot.
-use Rattle.std.proofs.Common.{◌+◌, ◌-◌, ◌/◌, ◌≤◌, [], sym, ◌∙◌, arith}
-use native.Mathlib.Nat.{add-sub_cancel_left}
+use Rattle.std.proofs.Common.{◌-◌, ◌≤◌}
 use Rattle.month.specs.Report.{lines_of}
 use Rattle.month.specs.Bytes.{rows_to}
 use Rattle.month.specs.Lookup.{spot_of}
-use Rattle.month.proofs.Tables.{lines-ascend}
-use Rattle.month.proofs.Views.{lines-length, line_at}
-use Rattle.month.proofs.Spots.{spot-most, spot-low, spot-high}
 use Rattle.month.proofs.line.spot.Given as goal
 
 abbrev pub invariant-loop-low : goal.invariant-loop-low

@@ -1,6 +1,6 @@
 -- Only a place below k has a line, and two lines of 66 bytes are compared as they stand.
 use Rattle.month.proofs.Noting.{held_at}
-use Rattle.std.proofs.Common.{refl, arith, rules, le-ltb, lt-ltb}
+use Rattle.std.proofs.Common.{refl, arith, le-ltb, lt-ltb}
 use Rattle.month.proofs.new.at_spot.Goals as goal
 
 -- src/new.rt:42:9

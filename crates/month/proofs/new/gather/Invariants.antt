@@ -1,10 +1,9 @@
 -- What is held are the least new lines of the transfers passed, and one transfer more makes it those of one more.
-use Rattle.month.proofs.Gathering.{none-gathered, one-gathered, transfers-next, place_in}
 use Rattle.month.specs.Report.{lines_of, lines_in}
 use Rattle.month.specs.Bytes.{rows_to}
-use Rattle.month.specs.Lookup.{fed_at, transfers_at, new_above}
+use Rattle.month.specs.Lookup.{transfers_at, new_above}
 use Rattle.month.specs.Standing.{Entered}
-use Rattle.std.proofs.Common.{◌≡◌, ◌-◌, ◌≤◌, [], length, get_or, take, refl, ◌∙◌, arith, rules}
+use Rattle.std.proofs.Common.{◌≡◌, ◌-◌, ◌≤◌, [], length, take}
 use Rattle.month.proofs.new.gather.Given as goal
 
 abbrev pub invariant-loop-i : goal.invariant-loop-i

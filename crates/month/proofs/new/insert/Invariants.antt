@@ -1,7 +1,6 @@
 -- Numbers move one place up, the last one first, so each is read before it is written over.
-use Rattle.month.proofs.Noting.{move-more, moved}
 use lib.Seq.{sets}
-use Rattle.std.proofs.Common.{◌≡◌, ◌+◌, ◌-◌, ◌≤◌, length, take, drop, refl, arith, length-set}
+use Rattle.std.proofs.Common.{◌≡◌, ◌+◌, ◌-◌, ◌≤◌, length, take, drop}
 use Rattle.month.proofs.new.insert.Given as goal
 
 abbrev pub invariant-loop-i : goal.invariant-loop-i

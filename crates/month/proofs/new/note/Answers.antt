@@ -2,9 +2,7 @@
 use Rattle.month.proofs.Noting.{note-below, note-old, note-behind, note-there, note-put, held-length, Keeps, keeps}
 use Rattle.month.proofs.Spots.{spot-most}
 use Rattle.month.specs.Lookup.{lines_numbered}
-use borrow.Author.Tests.{not-true, not-false}
-use Rattle.std.proofs.Common.{length, take, sym, ◌∙◌, inl, inr, arith, rules}
-use mathlib.Core.Logic.{⊎_map}
+use Rattle.std.proofs.Common.{length, take, sym, ◌∙◌, inl, inr, arith}
 use Rattle.month.proofs.new.note.Goals as goal
 use Rattle.month.proofs.new.note.Goals.{Joined-k-numbers, then-k-numbers, else-k-numbers}
 

@@ -2,8 +2,7 @@
 use Rattle.month.proofs.Gathering.{one-noted, three-noted}
 use Rattle.month.specs.Report.{lines_of}
 use Rattle.month.specs.Bytes.{rows_to}
-use borrow.Author.Tests.{not-true, not-false}
-use Rattle.std.proofs.Common.{sym, ◌∙◌, rules}
+use Rattle.std.proofs.Common.{sym, ◌∙◌}
 use Rattle.month.proofs.new.note_lines.Goals as goal
 
 -- src/new.rt:114:9

@@ -1,9 +1,9 @@
 -- All lines before `low` are below the line, the one at `high` and all behind it are not, because they ascend; where the two meet is the spot.
 use Rattle.month.proofs.Noting.{held_at, held-length, held-line}
 use Rattle.month.proofs.Spots.{spot-most, spot-low, spot-high}
-use Rattle.month.specs.Lookup.{lines_numbered, spot_of}
+use Rattle.month.specs.Lookup.{lines_numbered}
 use Rattle.wire.specs.Order.{lt_key}
-use Rattle.std.proofs.Common.{◌≡◌, ◌+◌, ◌-◌, ◌/◌, ◌≤◌, true, false, [], length, get_or, take, sym, refl, ◌∙◌, arith, rules}
+use Rattle.std.proofs.Common.{◌≡◌, ◌+◌, ◌-◌, ◌/◌, true, false, [], get_or, take, sym, refl, ◌∙◌, arith}
 use Rattle.month.proofs.new.spot.Goals as goal
 
 -- src/new.rt:24:5

@@ -3,10 +3,8 @@
 use Rattle.month.proofs.Counting.{rows-asked, new-few, new-all, held-least, held-last}
 use Rattle.month.proofs.Noting.{held_at}
 use Rattle.month.specs.Report.{lines_of, lines_in, used, fed_into}
-use Rattle.month.specs.Adding.{new_in}
 use Rattle.month.specs.Bytes.{rows_to, transfers_in}
-use Rattle.month.specs.Lookup.{new_above}
-use Rattle.std.proofs.Common.{◌≡◌, ◌+◌, ◌-◌, ◌/◌, ◌<◌, ◌≤◌, length, take, refl, ◌∙◌, arith, take_all, rules, le-ltb, lt-ltb}
+use Rattle.std.proofs.Common.{◌≡◌, ◌-◌, ◌/◌, ◌<◌, ◌≤◌, length, take, refl, ◌∙◌, arith, take_all, le-ltb, lt-ltb}
 use native.Mathlib.Nat.{sub-zero}
 use Rattle.month.proofs.room.full.Goals as goal
 

@@ -1,13 +1,10 @@
 -- The new lines are those counted and those above the last one counted. They are too many as soon as more are held than there is room left for, and all are
 -- counted when fewer are held than can be.
-use Rattle.month.proofs.Counting.{rows-asked, new-few, new-all, held-least, held-last}
-use Rattle.month.proofs.Noting.{held_at}
-use Rattle.month.specs.Report.{lines_of, lines_in, used, fed_into}
+use Rattle.month.specs.Report.{lines_of, lines_in}
 use Rattle.month.specs.Adding.{new_in}
 use Rattle.month.specs.Bytes.{rows_to, transfers_in}
 use Rattle.month.specs.Lookup.{new_above}
-use Rattle.std.proofs.Common.{◌≡◌, ◌+◌, ◌-◌, ◌/◌, ◌<◌, ◌≤◌, length, take, refl, ◌∙◌, arith, take_all, rules, le-ltb, lt-ltb}
-use native.Mathlib.Nat.{sub-zero}
+use Rattle.std.proofs.Common.{◌≡◌, ◌+◌, ◌-◌, ◌≤◌, length, take}
 use Rattle.month.proofs.room.full.Given as goal
 
 abbrev pub invariant-loop-fresh : goal.invariant-loop-fresh

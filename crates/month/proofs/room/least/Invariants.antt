@@ -1,10 +1,9 @@
 -- What is held are the least new lines of the transfers passed, and one transfer more makes it those of one more.
-use Rattle.month.proofs.Gathering.{none-gathered, one-gathered, transfers-more}
 use Rattle.month.specs.Report.{lines_of, lines_in}
-use Rattle.month.specs.Bytes.{rows_to, transfers_to, transfers_in}
-use Rattle.month.specs.Lookup.{fed_at, new_above}
+use Rattle.month.specs.Bytes.{rows_to, transfers_to}
+use Rattle.month.specs.Lookup.{new_above}
 use Rattle.month.specs.Standing.{Entered}
-use Rattle.std.proofs.Common.{◌≡◌, ◌-◌, ◌/◌, ◌≤◌, length, take, refl, ◌∙◌, arith}
+use Rattle.std.proofs.Common.{◌≡◌, ◌-◌, ◌≤◌, length, take}
 use Rattle.month.proofs.room.least.Given as goal
 
 abbrev pub invariant-loop-i : goal.invariant-loop-i

@@ -1,5 +1,5 @@
 -- Each field is written behind the last, so it is read as it was; the four together are the row with the sums added.
-use Rattle.std.proofs.Common.{◌≡◌, ℕ, ◌+◌, ◌-◌, ◌*◌, ◌^◌, ◌<◌, ◌≤◌, List, sym, ap, ◌∙◌, subst, arith, rules}
+use Rattle.std.proofs.Common.{◌≡◌, ℕ, ◌+◌, ◌-◌, ◌*◌, ◌^◌, ◌<◌, ◌≤◌, List, sym, ap, ◌∙◌, subst, arith}
 use lib.Seq.{sets}
 use Rattle.wire.specs.Le.{le, le_bytes}
 use Rattle.month.specs.Bytes.{rows_to}
@@ -7,7 +7,7 @@ use Rattle.month.proofs.Posting.{room, sum_kept, takes_at, row-taken, row-added}
 use Rattle.month.proofs.sums.add.Goals as goal
 use Rattle.month.proofs.sums.add.Goals.{After-add_wide, After-add_wide-2, After-add_wide-3}
 
--- what was added behind is read as it was
+-- each field has room (`takes_at`), and is read as it was
 past : (n j : ℕ) (c : After-add_wide) → c.args.place * 118 + 82 ≤ j → le n c.add_wide.new.d j ≡ le n c.args.report.now j
 past n j c h =
     let b = c.args.report.now in

@@ -1,5 +1,5 @@
 -- The low half wraps, and the carry says whether it did; two runs of 8 bytes one behind the other are 16.
-use Rattle.std.proofs.Common.{◌≡◌, ℕ, ◌+◌, ◌^◌, ◌<◌, List, sym, ap, ◌∙◌, ap₂, arith, rules, le-ltb, lt-ltb}
+use Rattle.std.proofs.Common.{◌≡◌, ℕ, ◌+◌, ◌^◌, ◌<◌, List, sym, ap, ◌∙◌, ap₂, arith, le-ltb, lt-ltb}
 use lib.Seq.{sets}
 use Rattle.wire.specs.Le.{le, le_bytes}
 use Rattle.month.specs.Wide.{low_after, carry}
@@ -25,8 +25,8 @@ carried : (c : Joined-sum-low) → c.if-sum-low.carry ≡ carry (low c) c.args.x
 carried c =
     let e = c.u64_at-low.ensures in
     elim c.if-sum-low.branch [
-      then-sum-low w ↦ w.carry-is ∙ sym (rw (← summed c, ← e, lt-ltb _ _ w.if-sum-low.true))
-    | else-sum-low w ↦ w.carry-is ∙ sym (rw (← summed c, ← e, le-ltb _ _ w.if-sum-low.false))
+      | then-sum-low w ↦ w.carry-is ∙ sym (rw (← summed c, ← e, lt-ltb _ _ w.if-sum-low.true))
+      | else-sum-low w ↦ w.carry-is ∙ sym (rw (← summed c, ← e, le-ltb _ _ w.if-sum-low.false))
     ]
 
 pub overflow_add-high : goal.overflow_add-high

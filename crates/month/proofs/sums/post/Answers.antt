@@ -1,6 +1,6 @@
 -- The places found are those of the transfer's lines; the lines stay through each addition, and three additions, or one, are the transfer fed.
-use Rattle.std.proofs.Common.{◌≡◌, ℕ, ◌+◌, ◌-◌, ◌*◌, ◌^◌, ◌<◌, ◌≤◌, true, List, sym, refl, ap, ◌∙◌, arith, rules}
-use Rattle.month.specs.Transfers.{FedTransfer, Line, summed, own, source_line, destination_line}
+use Rattle.std.proofs.Common.{◌≡◌, ◌-◌, ◌*◌, ◌^◌, ◌<◌, ◌≤◌, true, sym, refl, ap, ◌∙◌, arith}
+use Rattle.month.specs.Transfers.{Line, summed, own, source_line, destination_line}
 use Rattle.month.specs.Report.{lines_of}
 use Rattle.month.specs.Bytes.{rows_to}
 use Rattle.month.specs.Lookup.{fed_at, place_of_line}
@@ -30,7 +30,7 @@ destination-place c =
     c.find-destination.ensures
     ∙ ap (λ (k : Line). place_of_line k (lines_of (rows_to a.report.now a.rows))) (c.put_line-3.ensures ∙ line-destination a.t.now a.i)
 
--- past the second test it is summed
+-- past the second test it is summed, and its own line is there; past the third its source's line is, past the fourth its destination's (`found_in`: where each line is, below the number of rows)
 is-summed : (c : After-find-source) → summed (fed_at c.args.t.now c.args.i) ≡ true
 is-summed c = sym c.is_summed.ensures ∙ c.if-not-is_summed.false
 
@@ -76,8 +76,7 @@ returns-then-not-is_summed c =
     let t = fed_at a.t.now a.i in
     let n = c.if-own-rows.false in
     let e = own-place (goal.at.returns-then-not-is_summed c).After-find-own in
-    let q = sym c.is_summed.ensures ∙ c.if-not-is_summed.true in
-    (
+    let q = sym c.is_summed.ensures ∙ c.if-not-is_summed.true in (
       sym (has-own (rows_to a.report.now a.rows) t q (found a.report.now a.rows (own t) c.find-own.result e n)),
       one-fed a.report.now c.add.new.report a.rows c.find-own.result t c.requires.1 q (found-line a.report.now a.rows (own t) c.find-own.result e n) c.add.ensures,
     )
@@ -120,8 +119,7 @@ add-requires-3 c =
     let b = a.report.now in
     let t = fed_at a.t.now a.i in
     let at = goal.at.add-requires-3 c in
-    let h = found_in b a.rows (own t) c.find-own.result (own-place at.After-find-own) c.if-own-rows.false in
-    (
+    let h = found_in b a.rows (own t) c.find-own.result (own-place at.After-find-own) c.if-own-rows.false in (
       found_in b a.rows (source_line t) c.find-source.result (source-place at.After-find-source) c.if-source-rows.false,
       omega arith,
       stands2 at.After-add-2 h,
@@ -141,8 +139,7 @@ add-requires-4 c =
     let h = found_in b n (own t) c.find-own.result (own-place at.After-find-own) c.if-own-rows.false in
     let g = found_in b n (source_line t) c.find-source.result (source-place at.After-find-source) c.if-source-rows.false in
     let x = source_by c.u64_at-amount.result in
-    let s = stands2 at.After-add-2 h in
-    (
+    let s = stands2 at.After-add-2 h in (
       found_in b n (destination_line t) c.find-destination.result (destination-place at.After-find-destination) c.if-destination-rows.false,
       omega arith,
       add-stands c.add-2.new.report c.add-3.new.report n c.find-source.result x g s c.add-3.auto.report c.add-3.ensures,
@@ -162,8 +159,7 @@ returns c =
     let q = is-summed at.After-find-source in
     let o = c.if-own-rows.false in
     let s = c.if-source-rows.false in
-    let d = c.if-destination-rows.false in
-    (
+    let d = c.if-destination-rows.false in (
       sym (has-three (rows_to b n) t q (found b n (own t) c.find-own.result eo o) (found b n (source_line t) c.find-source.result es s) (found b n (destination_line t) c.find-destination.result ed d)),
       three-fed b c.add-2.new.report c.add-3.new.report c.add-4.new.report n c.find-own.result c.find-source.result c.find-destination.result a.t.now a.i c.u64_at-amount.result c.u64_at-fee.result c.requires.1
           (found_in b n (own t) c.find-own.result eo o) (found_in b n (source_line t) c.find-source.result es s) c.add-2.auto.report q c.u64_at-amount.ensures c.u64_at-fee.ensures
