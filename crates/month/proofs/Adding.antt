@@ -142,7 +142,7 @@ add-grows r e = (added-length (added r e)).0
 pub add-all-sorted : {r : Report} (es : List ReportRow) → Sorted r → Sorted (add_rows r es)
 unfolding add_rows
 add-all-sorted [] a = a
-add-all-sorted (e ∷ es) a = add-all-sorted es (add-sorted e a)
+add-all-sorted {r = r} (e ∷ es) a = add-all-sorted {r = add_row r e} es (add-sorted e a)
 
 pub add-all-held : (k : Line) (r : Report) (es : List ReportRow) → held_on k (add_rows r es) ≡ plus (held_on k r) (held_on k es)
 unfolding add_rows held_on

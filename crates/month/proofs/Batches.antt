@@ -30,7 +30,7 @@ use Rattle.month.proofs.Rows.{among_in, among-out, fed-used, fed-part-used}
 use Rattle.month.proofs.Reading.{transfer-formed}
 use Rattle.month.proofs.Views.{mem-at}
 use Rattle.month.proofs.Spots.{among-true}
-use Rattle.month.proofs.Least.{new_in, new-of, new-count, new-most}
+use Rattle.month.proofs.Least.{new_in-above, new-of, new-count, new-most}
 use Rattle.month.proofs.Noting.{map-join}
 use Rattle.month.proofs.Gathering.{transfers-next, place_in}
 use Rattle.month.proofs.Bearing.{bears-less, bears-fed, bears-all}
@@ -147,7 +147,7 @@ module _ (r : Report) (ts : List FedTransfer) where
     where
       go : Memᴰ k (lines_of r) ⊎ (¬ Memᴰ k (lines_of r)) → Memᴰ k (lines_of (add_rows r (empty_rows fresh)))
       go (inl j) = admitted-lines.from (Memᴰ.append_left fresh j)
-      go (inr n) = admitted-lines.from (Memᴰ.append_right (lines_of r) (new_in i (lines-above ts k i) n))
+      go (inr n) = admitted-lines.from (Memᴰ.append_right (lines_of r) (new_in-above i (lines-above ts k i) n))
 
   pub admitted-all : all_among (lines_in ts) (lines_of (add_rows r (empty_rows fresh))) ≡ true
   admitted-all = all_in (lines_in ts) (lines_of (add_rows r (empty_rows fresh))) (λ k i. admitted-in k i)

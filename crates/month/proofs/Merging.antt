@@ -51,7 +51,7 @@ adds-front a e c (x ∷ es) h = rw (add-front a e x c (h x (Memᴰ.head refl))) 
 adds_then : {r : Report} (e : ReportRow) (es : Report) → Sorted r → add_row (add_rows r es) e ≡ add_rows (add_row r e) es
 unfolding add_rows
 adds_then e [] a = refl
-adds_then e (x ∷ es) a = adds_then e es (add-sorted x a) ∙ ap (λ (s : Report). add_rows s es) (add_comm x e a)
+adds_then {r = r} e (x ∷ es) a = adds_then {r = add_row r x} e es (add-sorted x a) ∙ ap (λ (s : Report). add_rows s es) (add_comm x e a)
 
 module _ {r : Report} (k : Line) (a : Sorted r) (new : among k (lines_of r) ≡ false) where
   -- a new line's row at its spot

@@ -112,7 +112,7 @@ unfolding fed_by some_fed
 kept-calls {us} {w} x no_call = rw (append-nil us, or-false w) x
 kept-calls {us} {w} x (next_call {k = k} {ks = ks} h f c) =
     rw (← append_assoc us (cond (was_fed k) (transfers_in k.table) []) (fed_by ks), ← or_assoc w (was_fed k) (some_fed ks))
-    (kept-calls (kept_step k x h f) c)
+    (kept-calls {us = us ++ cond (was_fed k) (transfers_in k.table) []} {w = w || was_fed k} (kept_step k x h f) c)
 
 from_empty : {b : List ℕ} {ks : List MonthCall} {d : List ℕ} {n m : ℕ} → Calls b 0 0 ks d n m → Kept b (fed_by ks) (some_fed ks) d n m
 from_empty {b} c = kept-calls (kept-none b) c

@@ -59,7 +59,7 @@ add-used {r} e a = go (mem? e.0 (lines_of r))
 pub add-all-used : {r : Report} (es : List ReportRow) → Sorted r → used (add_rows r es) ≡ used r + new_in (lines_of r) (lines_of es)
 unfolding add_rows new_in
 add-all-used [] a = omega arith
-add-all-used {r} (e ∷ es) a = omega (arith, add-all-used es (add-sorted e a), add-used e a, new-alike (lines_of es) (add-lines r e))
+add-all-used {r} (e ∷ es) a = omega (arith, add-all-used {r = add_row r e} es (add-sorted e a), add-used e a, new-alike (lines_of es) (add-lines r e))
 
 -- the rows used after feeding
 pub fed-used : {r : Report} (ts : List FedTransfer) → Sorted r → used (fed_into r ts) ≡ used r + new_in (lines_of r) (lines_in ts)

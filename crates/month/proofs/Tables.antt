@@ -52,6 +52,7 @@ not_after {x} f i = below-differ (f x i) refl
 -- on each of its lines a report has what its row says
 pub held_in : (f : Line → Sums) {k : Line} {l : List Line} → Ascending (λ x. x) l → Memᴰ k l → held_on k (rows_of f l) ≡ f k
 unfolding held_on
+held_in f {k = k} asc_nil h = elim h [ ]
 held_in f {k} (asc_cons {r = x} {t = l} b s) (Memᴰ.head e) =
     rw (same-eq e, held_out k (rows_of f l) (λ i. not_after b (rw (rows-lines f l, e) at i)))
     (plus-nothing (f x) ∙ ap f (sym e))

@@ -4,7 +4,6 @@ use Rattle.finder.proofs.Finding.{found-block, found_nowhere}
 use Rattle.subtrees.specs.Subtrees.{positions}
 use Rattle.subtrees.proofs.Arrays.{positions-length}
 use native.Mathlib.Omega.{arith}
-use borrow.Author.Rules.{rules}
 use Rattle.finder.proofs.block.Goals as goal
 
 pub returns-then-m-i : goal.returns-then-m-i

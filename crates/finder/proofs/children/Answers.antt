@@ -1,12 +1,10 @@
 -- The walk stands at each child once: the children before e are listed, and the block of each is passed whole.
 -- Assumes nothing.
 use Rattle.finder.proofs.Finding.{child-after}
-use Rattle.finder.proofs.Listing.{Listed, listed-first, listed-jump, listed-stop, listed-out, listed-nowhere}
+use Rattle.finder.proofs.Listing.{listed-first, listed-jump, listed-stop, listed-out, listed-nowhere}
 use Rattle.subtrees.specs.Subtrees.{positions, filled}
 use Rattle.subtrees.proofs.Arrays.{positions-length, within-at}
-use borrow.Author.Tests.{not-true, not-false}
 use mathlib.Core.Path.{refl, ◌∙◌}
-use Prim.Native.Nat.{◌-◌, ◌≤◌}
 use native.Mathlib.Omega.{arith}
 use Rattle.finder.proofs.children.Goals as goal
 

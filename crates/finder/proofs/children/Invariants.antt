@@ -1,13 +1,8 @@
 -- The walk stands at each child once: the children before e are listed, and the block of each is passed whole.
 -- Assumes nothing.
-use Rattle.finder.proofs.Finding.{child-after}
-use Rattle.finder.proofs.Listing.{Listed, listed-first, listed-jump, listed-stop, listed-out, listed-nowhere}
-use Rattle.subtrees.specs.Subtrees.{positions, filled}
-use Rattle.subtrees.proofs.Arrays.{positions-length, within-at}
-use borrow.Author.Tests.{not-true, not-false}
-use mathlib.Core.Path.{refl, ◌∙◌}
+use Rattle.finder.proofs.Listing.{Listed}
+use Rattle.subtrees.specs.Subtrees.{positions}
 use Prim.Native.Nat.{◌-◌, ◌≤◌}
-use native.Mathlib.Omega.{arith}
 use Rattle.finder.proofs.children.Given as goal
 
 abbrev pub invariant-loop-e : goal.invariant-loop-e

@@ -3,7 +3,6 @@
 use borrow.Author.Tests.{eq-eqb, ne_eqb}
 use Rattle.ids.specs.Keys.{zero_key}
 use Rattle.ids.specs.Mints.{is_mint}
-use borrow.Author.Rules.{rules}
 use Rattle.ids.proofs.is_mint.Goals as goal
 
 pub returns-then-mint-eq32 : goal.returns-then-mint-eq32

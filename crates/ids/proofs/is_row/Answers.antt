@@ -5,7 +5,6 @@ use native.Mathlib.Nat.{add-sub_cancel_left}
 use mathlib.Core.Path.{◌∙◌, ap}
 use lib.ListN.{length}
 use Rattle.ids.proofs.Rule.{ids-length}
-use borrow.Author.Rules.{rules}
 use Rattle.ids.proofs.is_row.Goals as goal
 
 pub slice_bounds-equal-end : goal.slice_bounds-equal-end

@@ -3,7 +3,6 @@
 use Rattle.ids.specs.Ids.{ids, is_wrapped_sol}
 use mathlib.Core.Path.{refl}
 use native.Mathlib.Omega.{arith}
-use borrow.Author.Rules.{rules}
 use Rattle.ids.proofs.is_wrapped_sol.Goals as goal
 
 pub is_row-requires : goal.is_row-requires

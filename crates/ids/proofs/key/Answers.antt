@@ -1,6 +1,5 @@
 -- A row below the count is whole, so its 32 bytes are there; past the count the definition has the stand-in too.
 -- Assumes nothing.
-use borrow.Author.Rules.{rules}
 use borrow.Author.Tests.{lt-ltb, le-ltb}
 use native.Mathlib.Nat.{add-sub_cancel_left}
 use Rattle.ids.proofs.key.Goals as goal

@@ -2,7 +2,6 @@
 -- Assumes nothing.
 use mathlib.Core.Path.{◌∙◌}
 use Rattle.ids.specs.Keys.{zero_key}
-use borrow.Author.Rules.{rules}
 use Rattle.ids.proofs.put_key.Goals as goal
 
 pub returns : goal.returns

@@ -4,7 +4,6 @@ use mathlib.Core.Path.{sym, ◌∙◌}
 use native.Mathlib.Numerals.{add-one}
 use Rattle.ids.specs.Mints.{mint_of, mint_field}
 use Rattle.wire.proofs.Sets.{sets-past}
-use borrow.Author.Rules.{rules}
 use Rattle.ids.proofs.put_mint.Goals as goal
 
 pub returns-then-out-at : goal.returns-then-out-at

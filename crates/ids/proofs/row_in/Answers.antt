@@ -9,7 +9,6 @@ use Rattle.wire.proofs.Same.{same_true}
 use mathlib.Core.Path.{◌≡◌, sym, ap, ◌∙◌}
 use Prim.Native.Nat.{ℕ, ◌<◌}
 use native.Mathlib.Omega.{arith}
-use borrow.Author.Rules.{rules}
 use Rattle.ids.proofs.row_in.Goals as goal
 use Rattle.ids.proofs.row_in.Goals.{After-candidate-row}
 

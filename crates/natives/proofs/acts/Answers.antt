@@ -1,7 +1,6 @@
 -- The two tests are the definition's.
 -- Assumes nothing.
 use mathlib.Core.Path.{sym, ◌∙◌}
-use borrow.Author.Rules.{rules}
 use Rattle.natives.proofs.acts.Goals as goal
 
 pub returns-then-token_program : goal.returns-then-token_program

@@ -1,12 +1,8 @@
 -- The test of the indexes from place i on is the test of all of them.
 -- Assumes nothing.
-use borrow.Author.Rules.{rules}
 use native.Mathlib.Omega.{arith}
-use mathlib.Core.Path.{◌≡◌, refl, sym, ◌∙◌}
-use Prim.Native.Nat.{◌≤◌, ◌-◌}
-use lib.ListN.{length, drop}
+use mathlib.Core.Path.{refl, sym, ◌∙◌}
 use Rattle.natives.proofs.Laws.{below_next, below-stop, below_end}
-use Rattle.natives.specs.Natives.{indexes_below}
 use Rattle.natives.proofs.all_below.Goals as goal
 
 pub loop-i-init : goal.loop-i-init

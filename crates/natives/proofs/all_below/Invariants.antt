@@ -1,11 +1,8 @@
 -- The test of the indexes from place i on is the test of all of them.
 -- Assumes nothing.
-use borrow.Author.Rules.{rules}
-use native.Mathlib.Omega.{arith}
-use mathlib.Core.Path.{◌≡◌, refl, sym, ◌∙◌}
+use mathlib.Core.Path.{◌≡◌}
 use Prim.Native.Nat.{◌≤◌, ◌-◌}
 use lib.ListN.{length, drop}
-use Rattle.natives.proofs.Laws.{below_next, below-stop, below_end}
 use Rattle.natives.specs.Natives.{indexes_below}
 use Rattle.natives.proofs.all_below.Given as goal
 

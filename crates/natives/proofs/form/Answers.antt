@@ -3,7 +3,6 @@
 use mathlib.Core.Path.{sym, ◌∙◌}
 use Rattle.natives.specs.Numbers.{form_of}
 use Rattle.natives.specs.Natives.{syncs, closes}
-use borrow.Author.Rules.{rules}
 use Rattle.natives.proofs.form.Goals as goal
 
 pub returns-then-funds : goal.returns-then-funds

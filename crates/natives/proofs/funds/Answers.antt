@@ -3,10 +3,9 @@
 use mathlib.Core.Path.{sym, ◌∙◌}
 use mathlib.Core.Bool.{and-false}
 use native.Mathlib.Omega.{arith}
-use borrow.Author.Tests.{eq-eqb, ne_eqb, not-true, not-false}
+use borrow.Author.Tests.{eq-eqb, ne_eqb}
 use Rattle.natives.specs.Natives.{funds}
 use Rattle.natives.proofs.Forms.{is-two, not-two}
-use borrow.Author.Rules.{rules}
 use Rattle.natives.proofs.funds.Goals as goal
 
 pub returns-then-not-system : goal.returns-then-not-system

@@ -3,10 +3,8 @@
 use mathlib.Core.Path.{sym, ◌∙◌}
 use mathlib.Core.Bool.{and-false}
 use mathlib.Core.List.{[], ◌∷◌}
-use borrow.Author.Tests.{not-true, not-false}
 use Rattle.wire.proofs.Same.{same-not-long, same-not-at}
 use Rattle.natives.proofs.Forms.{alone}
-use borrow.Author.Rules.{rules}
 use Rattle.natives.proofs.lone.Goals as goal
 
 pub returns-then-not-token_program : goal.returns-then-not-token_program

@@ -4,7 +4,6 @@ use mathlib.Core.Path.{refl, ap}
 use lib.Seq.{sets}
 use Rattle.wire.specs.Zeros.{zeros}
 use Rattle.natives.proofs.Fields.{fields}
-use borrow.Author.Rules.{rules}
 use Rattle.natives.specs.Rows.{action_width}
 use Rattle.natives.proofs.put_fields.Goals as goal
 

@@ -4,7 +4,6 @@ use mathlib.Core.Path.{refl, ap, ◌∙◌}
 use lib.ListN.{length}
 use Rattle.ids.specs.Keys.{zero_key}
 use Rattle.ids.proofs.Keys.{key-length}
-use borrow.Author.Rules.{rules}
 use Rattle.natives.proofs.put_row.Goals as goal
 
 pub put_fields-requires : goal.put_fields-requires

@@ -2,12 +2,10 @@
 -- Assumes nothing.
 use Prim.Native.Nat.{ℕ}
 use mathlib.Core.Path.{sym, ap, ◌∙◌}
-use borrow.Author.Tests.{not-true, not-false}
 use Rattle.ids.specs.Keys.{key_count}
 use Rattle.ids.specs.Mints.{mint_of}
 use Rattle.natives.specs.Natives.{indexes_below}
 use Rattle.natives.proofs.Laws.{no-form, wrapped-mint, other-mint, no_key, counts}
-use borrow.Author.Rules.{rules}
 use Rattle.natives.proofs.settle.Goals as goal
 
 pub returns-then-nothing : goal.returns-then-nothing

@@ -2,7 +2,6 @@
 -- Assumes nothing.
 use mathlib.Core.Path.{sym, ◌∙◌}
 use Rattle.natives.specs.Numbers.{sized_of}
-use borrow.Author.Rules.{rules}
 use Rattle.natives.proofs.sized.Goals as goal
 
 pub returns-then-token_program : goal.returns-then-token_program

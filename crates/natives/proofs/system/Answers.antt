@@ -5,7 +5,6 @@ use mathlib.Core.List.{[], ◌∷◌}
 use borrow.Author.Tests.{ne_eqb}
 use Rattle.natives.specs.Natives.{is_system}
 use Rattle.token.proofs.Numbers.{number-not}
-use borrow.Author.Rules.{rules}
 use borrow.Enum.Refused.{opened}
 use Rattle.natives.proofs.system.Goals as goal
 

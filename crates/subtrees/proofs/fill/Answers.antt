@@ -1,11 +1,11 @@
 -- From invocation i on the arrays hold ends and inside bits, and which of these invocations is a parent of which, and `total` their tests; each step adds one invocation in front.
 -- Assumes nothing.
-use Rattle.subtrees.proofs.Filling.{Filling, filling-none, filling-more, filling-all}
+use Rattle.subtrees.proofs.Filling.{filling-none, filling-more, filling-all}
 use Rattle.subtrees.proofs.Arrays.{positions-length}
 use Rattle.subtrees.specs.Subtrees.{positions}
 use lib.ListN.{length, length-set}
 use mathlib.Core.Path.{◌≡◌, refl}
-use Prim.Native.Nat.{◌+◌, ◌-◌, ◌*◌, ◌≤◌}
+use Prim.Native.Nat.{◌+◌, ◌-◌}
 use native.Mathlib.Omega.{arith}
 use Rattle.subtrees.proofs.fill.Goals as goal
 

@@ -1,12 +1,10 @@
 -- From invocation i on the arrays hold ends and inside bits, and which of these invocations is a parent of which, and `total` their tests; each step adds one invocation in front.
 -- Assumes nothing.
-use Rattle.subtrees.proofs.Filling.{Filling, filling-none, filling-more, filling-all}
-use Rattle.subtrees.proofs.Arrays.{positions-length}
+use Rattle.subtrees.proofs.Filling.{Filling}
 use Rattle.subtrees.specs.Subtrees.{positions}
-use lib.ListN.{length, length-set}
-use mathlib.Core.Path.{◌≡◌, refl}
-use Prim.Native.Nat.{◌+◌, ◌-◌, ◌*◌, ◌≤◌}
-use native.Mathlib.Omega.{arith}
+use lib.ListN.{length}
+use mathlib.Core.Path.{◌≡◌}
+use Prim.Native.Nat.{◌-◌, ◌*◌, ◌≤◌}
 use Rattle.subtrees.proofs.fill.Given as goal
 
 abbrev pub invariant-loop-i : goal.invariant-loop-i

@@ -5,7 +5,6 @@ use Rattle.subtrees.specs.Subtrees.{odd}
 use mathlib.Core.Bool.{◌||◌}
 use Prim.Native.Nat.{◌/◌}
 use native.Mathlib.Omega.{arith}
-use borrow.Author.Rules.{rules}
 use Rattle.subtrees.proofs.joined.Goals as goal
 
 pub overflow_mul-result : goal.overflow_mul-result

@@ -1,18 +1,11 @@
 -- Every member before e is passed, alone or in the block of one that was tested, its bits are counted in, and the parents of those tested are set; a test that
 -- fails, or n, is the end.
 -- Assumes nothing.
-use Rattle.subtrees.proofs.Walk.{Walk, walk_first, walk-jump, walk-stop, walk-out}
-use Rattle.subtrees.proofs.Arrays.{positions-length, within-at, known-end}
-use Rattle.subtrees.specs.Subtrees.{positions, within, joined, end_of, inside_of}
-use borrow.Author.Tests.{not-true, not-false}
-use Rattle.subtrees.specs.Descendant.{descendant}
-use Rattle.pack.specs.Invocation.{Position, position_at}
-use lib.ListN.{length, get_or, length-set}
-use mathlib.Core.Bool.{Bool}
-use mathlib.Core.List.{List}
-use mathlib.Core.Path.{◌≡◌, ap, ◌∙◌}
-use Prim.Native.Nat.{ℕ, ◌<◌, ◌+◌, ◌-◌, ◌≤◌}
-use native.Mathlib.Omega.{arith}
+use Rattle.subtrees.proofs.Walk.{Walk}
+use Rattle.subtrees.specs.Subtrees.{positions}
+use lib.ListN.{length}
+use mathlib.Core.Path.{◌≡◌}
+use Prim.Native.Nat.{◌+◌, ◌-◌, ◌≤◌}
 use Rattle.subtrees.proofs.step.Given as goal
 
 abbrev pub invariant-loop-e : goal.invariant-loop-e

@@ -1,7 +1,6 @@
 -- Up to 1,024 invocations all are taken, of more the first 1,024.
 -- Assumes nothing.
 use Rattle.subtrees.proofs.Arrays.{taken-all, taken-most}
-use borrow.Author.Rules.{rules}
 use Rattle.subtrees.proofs.subtrees.Goals as goal
 
 pub returns-then-n-gt1024 : goal.returns-then-n-gt1024

@@ -1,7 +1,6 @@
 -- The numbers at places i and x are the two positions.
 -- Assumes nothing.
 use Rattle.pack.specs.Invocation.{position_at}
-use borrow.Author.Rules.{rules}
 use Rattle.subtrees.proofs.within.Goals as goal
 
 pub returns : goal.returns

@@ -1,7 +1,6 @@
 -- Each tag has its arm, and a byte without an arm is no tag of a transfer.
 -- Assumes nothing.
 use mathlib.Core.Path.{sym, ◌∙◌}
-use borrow.Author.Rules.{rules}
 use borrow.Author.Tests.{ne_eqb}
 use Rattle.token.specs.Moved.{accounts_named}
 use Rattle.token.proofs.accounts_named.Goals as goal

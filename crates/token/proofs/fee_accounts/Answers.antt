@@ -1,7 +1,6 @@
 -- The test is the definition's, and each branch its answer.
 -- Assumes nothing.
 use mathlib.Core.Path.{sym, ◌∙◌}
-use borrow.Author.Rules.{rules}
 use Rattle.token.proofs.fee_accounts.Goals as goal
 
 pub returns-then-fee_tag : goal.returns-then-fee_tag

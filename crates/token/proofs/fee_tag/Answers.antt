@@ -1,7 +1,6 @@
 -- The two tests are the definition's, the second made only where the first holds.
 -- Assumes nothing.
 use mathlib.Core.Path.{sym, ◌∙◌}
-use borrow.Author.Rules.{rules}
 use Rattle.token.proofs.fee_tag.Goals as goal
 
 pub returns-then-token_2022 : goal.returns-then-token_2022

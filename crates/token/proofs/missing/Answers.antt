@@ -2,7 +2,6 @@
 -- Assumes nothing.
 use Rattle.ids.specs.Keys.{zero_key}
 use mathlib.Core.Path.{◌∙◌}
-use borrow.Author.Rules.{rules}
 use Rattle.token.proofs.missing.Goals as goal
 
 pub returns : goal.returns

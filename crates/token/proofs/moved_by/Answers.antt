@@ -1,7 +1,6 @@
 -- Each arm names the case, its index bytes and what the test of zero keys answered; the definition then computes.
 -- Assumes nothing.
 use mathlib.Core.Path.{sym, ◌∙◌}
-use borrow.Author.Rules.{rules}
 use Rattle.token.proofs.moved_by.Goals as goal
 
 pub returns-then-no_ends : goal.returns-then-no_ends

@@ -1,8 +1,6 @@
 -- The tests are the definition's, each made only where those before it hold.
 -- Assumes nothing.
-use borrow.Author.Tests.{not-true, not-false}
 use mathlib.Core.Path.{sym, ◌∙◌}
-use borrow.Author.Rules.{rules}
 use Rattle.token.proofs.names_fee.Goals as goal
 
 pub returns-then-not-fee_tag : goal.returns-then-not-fee_tag

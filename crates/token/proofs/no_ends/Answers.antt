@@ -1,7 +1,6 @@
 -- The two tests are the definition's.
 -- Assumes nothing.
 use mathlib.Core.Path.{sym, ◌∙◌}
-use borrow.Author.Rules.{rules}
 use Rattle.token.proofs.no_ends.Goals as goal
 
 pub returns-then-missing : goal.returns-then-missing

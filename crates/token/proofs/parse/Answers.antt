@@ -2,11 +2,9 @@
 -- Assumes nothing.
 use Rattle.token.specs.Programs.{is_token}
 use mathlib.Core.Bool.{true}
-use borrow.Author.Tests.{not-true, not-false}
 use mathlib.Core.Path.{◌≡◌, sym, ◌∙◌}
 use mathlib.Core.Logic.{inl, inr, ⊎_elim}
 use Rattle.token.proofs.Reading.{read_none, read-1, read-3, read-12, read-16, read-18, read-26, read-rest}
-use borrow.Author.Rules.{rules}
 use Rattle.token.proofs.parse.Goals as goal
 use Rattle.token.proofs.parse.Goals.{Else-not-token_program}
 

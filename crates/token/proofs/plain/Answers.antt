@@ -1,7 +1,6 @@
 -- The test is the definition's, and the amount is read where it stands.
 -- Assumes nothing.
 use mathlib.Core.Path.{sym, ◌∙◌}
-use borrow.Author.Rules.{rules}
 use Rattle.token.proofs.plain.Goals as goal
 
 pub returns-then-at_least : goal.returns-then-at_least

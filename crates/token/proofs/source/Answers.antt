@@ -1,7 +1,6 @@
 -- The arm names the case, and a case that says why has no source.
 -- Assumes nothing.
 use mathlib.Core.Path.{sym}
-use borrow.Author.Rules.{rules}
 use borrow.Enum.Refused.{opened}
 use Rattle.ids.specs.Keys.{zero_key}
 use Rattle.token.proofs.Laws.{why-none}

@@ -5,7 +5,6 @@ use Rattle.token.specs.Programs.{is_spl}
 use borrow.Author.Tests.{ne_eqb}
 use mathlib.Core.List.{◌∷◌}
 use mathlib.Core.Path.{sym}
-use borrow.Author.Rules.{rules}
 use borrow.Enum.Refused.{opened}
 use Rattle.token.proofs.spl_token.Goals as goal
 

@@ -3,7 +3,6 @@
 use Rattle.token.proofs.Numbers.{number-not, others}
 use Rattle.token.specs.Programs.{is_token}
 use borrow.Author.Tests.{ne_eqb}
-use borrow.Author.Rules.{rules}
 use borrow.Enum.Refused.{opened}
 use Rattle.token.proofs.token_program.Goals as goal
 

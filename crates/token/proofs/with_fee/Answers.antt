@@ -1,7 +1,6 @@
 -- The test is the definition's, and amount and fee are read where they stand.
 -- Assumes nothing.
 use mathlib.Core.Path.{sym, ◌∙◌}
-use borrow.Author.Rules.{rules}
 use Rattle.token.proofs.with_fee.Goals as goal
 
 pub returns-then-names_fee : goal.returns-then-names_fee

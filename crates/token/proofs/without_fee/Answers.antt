@@ -2,7 +2,6 @@
 -- Assumes nothing.
 use Rattle.token.specs.Moved.{feeless}
 use mathlib.Core.Path.{sym, ◌∙◌}
-use borrow.Author.Rules.{rules}
 use Rattle.token.proofs.without_fee.Goals as goal
 
 pub returns-then-spl_token : goal.returns-then-spl_token

@@ -3,9 +3,8 @@
 use native.Mathlib.Omega.{arith}
 use borrow.Author.Fill.{fill_none, fill_more}
 use mathlib.Core.Path.{◌≡◌, refl, ◌∙◌}
-use mathlib.Core.List.{◌++◌, append-nil}
-use Prim.Native.Nat.{◌-◌, ◌≤◌}
-use lib.ListN.{length, drop, length-set, replicate, drop_of_length-le}
+use mathlib.Core.List.{append-nil}
+use lib.ListN.{length, length-set, drop_of_length-le}
 use Rattle.wire.proofs.clear.Goals as goal
 
 pub loop-i-init : goal.loop-i-init

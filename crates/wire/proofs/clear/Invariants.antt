@@ -1,11 +1,9 @@
 -- The bytes before i are 0 and the rest are as they were, so that at the end all are 0.
 -- Assumes nothing.
-use native.Mathlib.Omega.{arith}
-use borrow.Author.Fill.{fill_none, fill_more}
-use mathlib.Core.Path.{◌≡◌, refl, ◌∙◌}
-use mathlib.Core.List.{◌++◌, append-nil}
+use mathlib.Core.Path.{◌≡◌}
+use mathlib.Core.List.{◌++◌}
 use Prim.Native.Nat.{◌-◌, ◌≤◌}
-use lib.ListN.{length, drop, length-set, replicate, drop_of_length-le}
+use lib.ListN.{length, drop, replicate}
 use Rattle.wire.proofs.clear.Given as goal
 
 abbrev pub invariant-loop-i : goal.invariant-loop-i

@@ -1,14 +1,9 @@
 -- The bytes from i to n are equal in both, so those before them decide.
 -- Assumes nothing.
-use native.Mathlib.Omega.{arith}
-use mathlib.Core.Path.{◌≡◌, refl, sym, ap, ◌∙◌}
-use mathlib.Core.Bool.{false}
-use mathlib.Core.List.{[], ◌∷◌}
-use Prim.Native.Nat.{ℕ, ◌+◌, ◌-◌, ◌≤◌}
-use lib.ListN.{take, drop}
-use lib.Seq.{drop-cons, get_or-take}
+use mathlib.Core.Path.{◌≡◌}
+use Prim.Native.Nat.{◌≤◌}
+use lib.ListN.{take}
 use Rattle.wire.specs.Same.{same}
-use Rattle.wire.proofs.Same.{same-eq, same-not-at, same_step}
 use Rattle.wire.proofs.equal_rest.Given as goal
 
 abbrev pub invariant-loop-i : goal.invariant-loop-i

@@ -2,7 +2,6 @@
 -- Assumes nothing.
 use mathlib.Core.Path.{sym}
 use Rattle.wire.proofs.Laws.{le_split, bytes-join}
-use borrow.Author.Rules.{rules}
 use Rattle.wire.proofs.four.Goals as goal
 
 pub returns : goal.returns

@@ -2,10 +2,10 @@
 -- Assumes nothing.
 use native.Mathlib.Omega.{arith}
 use native.Mathlib.Nat.{add-zero, add_assoc}
-use mathlib.Core.Path.{◌≡◌, refl, ◌∙◌}
-use Prim.Native.Nat.{◌+◌, ◌-◌, ◌≤◌}
-use lib.ListN.{length, drop, length-drop}
-use lib.Seq.{sets, length-sets, drop-drop}
+use mathlib.Core.Path.{refl, ◌∙◌}
+use Prim.Native.Nat.{◌+◌}
+use lib.ListN.{drop, length-drop}
+use lib.Seq.{length-sets, drop-drop}
 use Rattle.wire.proofs.Sets.{sets-rest}
 use Rattle.wire.proofs.Laws.{le-back}
 use Rattle.wire.proofs.lay.Goals as goal

@@ -1,13 +1,9 @@
 -- What is still to be stored, stored from here, is always all of the run stored at once.
 -- Assumes nothing.
-use native.Mathlib.Omega.{arith}
-use native.Mathlib.Nat.{add-zero, add_assoc}
-use mathlib.Core.Path.{◌≡◌, refl, ◌∙◌}
+use mathlib.Core.Path.{◌≡◌}
 use Prim.Native.Nat.{◌+◌, ◌-◌, ◌≤◌}
-use lib.ListN.{length, drop, length-drop}
-use lib.Seq.{sets, length-sets, drop-drop}
-use Rattle.wire.proofs.Sets.{sets-rest}
-use Rattle.wire.proofs.Laws.{le-back}
+use lib.ListN.{length, drop}
+use lib.Seq.{sets}
 use Rattle.wire.proofs.lay.Given as goal
 
 abbrev pub invariant-loop-i : goal.invariant-loop-i

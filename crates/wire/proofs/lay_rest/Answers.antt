@@ -3,10 +3,9 @@
 use native.Mathlib.Omega.{arith}
 use native.Mathlib.Numerals.{add-one}
 use native.Mathlib.Nat.{add-suc}
-use mathlib.Core.Path.{◌≡◌, refl}
-use Prim.Native.Nat.{◌+◌, ◌-◌}
-use lib.ListN.{length, drop, length-set, drop_of_length-le}
-use lib.Seq.{sets, drop-cons}
+use mathlib.Core.Path.{refl}
+use lib.ListN.{length-set, drop_of_length-le}
+use lib.Seq.{drop-cons}
 use Rattle.wire.proofs.lay_rest.Goals as goal
 
 pub loop-i-init : goal.loop-i-init

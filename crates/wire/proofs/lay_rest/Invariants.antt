@@ -1,12 +1,9 @@
 -- What is still to be stored, stored from here, is always all of the rest stored at once.
 -- Assumes nothing.
-use native.Mathlib.Omega.{arith}
-use native.Mathlib.Numerals.{add-one}
-use native.Mathlib.Nat.{add-suc}
-use mathlib.Core.Path.{◌≡◌, refl}
+use mathlib.Core.Path.{◌≡◌}
 use Prim.Native.Nat.{◌+◌, ◌-◌}
-use lib.ListN.{length, drop, length-set, drop_of_length-le}
-use lib.Seq.{sets, drop-cons}
+use lib.ListN.{length, drop}
+use lib.Seq.{sets}
 use Rattle.wire.proofs.lay_rest.Given as goal
 
 abbrev pub invariant-loop-i : goal.invariant-loop-i

@@ -1,14 +1,9 @@
 -- The bytes before i are equal in both, so what follows them decides: eight bytes that differ, as numbers, or the rest.
 -- Assumes nothing.
-use native.Mathlib.Omega.{arith}
-use mathlib.Core.Path.{◌≡◌, refl, sym, ◌∙◌}
+use mathlib.Core.Path.{◌≡◌}
 use Prim.Native.Nat.{◌-◌, ◌≤◌}
 use lib.ListN.{length, drop}
-use borrow.Author.Tests.{leb-true}
 use Rattle.wire.specs.Order.{lt_key}
-use Rattle.wire.proofs.Order.{less-pass}
-use Rattle.wire.proofs.Word.{less-word}
-use Rattle.wire.proofs.Laws.{le_same}
 use Rattle.wire.proofs.less.Given as goal
 
 abbrev pub invariant-loop-i : goal.invariant-loop-i

@@ -1,13 +1,11 @@
 -- The bytes from `from` to i are equal in both, so what follows them decides.
 -- Assumes nothing.
 use native.Mathlib.Omega.{arith}
-use mathlib.Core.Path.{◌≡◌, refl, sym, ◌∙◌}
+use mathlib.Core.Path.{refl, sym, ◌∙◌}
 use mathlib.Core.Bool.{or-false}
-use Prim.Native.Nat.{◌-◌}
 use lib.Dec.{ltb}
-use lib.ListN.{length, get_or, drop}
+use lib.ListN.{get_or}
 use borrow.Author.Tests.{le-ltb, eq-eqb, ne_eqb}
-use Rattle.wire.specs.Order.{lt_key}
 use Rattle.wire.proofs.Order.{less-step, less-longer, less-end}
 use Rattle.wire.proofs.less_rest.Goals as goal
 

@@ -1,14 +1,9 @@
 -- The bytes from `from` to i are equal in both, so what follows them decides.
 -- Assumes nothing.
-use native.Mathlib.Omega.{arith}
-use mathlib.Core.Path.{◌≡◌, refl, sym, ◌∙◌}
-use mathlib.Core.Bool.{or-false}
+use mathlib.Core.Path.{◌≡◌}
 use Prim.Native.Nat.{◌-◌}
-use lib.Dec.{ltb}
-use lib.ListN.{length, get_or, drop}
-use borrow.Author.Tests.{le-ltb, eq-eqb, ne_eqb}
+use lib.ListN.{length, drop}
 use Rattle.wire.specs.Order.{lt_key}
-use Rattle.wire.proofs.Order.{less-step, less-longer, less-end}
 use Rattle.wire.proofs.less_rest.Given as goal
 
 abbrev pub invariant-loop-i : goal.invariant-loop-i

@@ -2,7 +2,6 @@
 -- Assumes nothing.
 use Rattle.wire.proofs.Laws.{le_bytes-split, le_bytes-low, le_bytes-length}
 use Rattle.wire.proofs.Sets.{sets-append}
-use borrow.Author.Rules.{rules}
 use Rattle.wire.proofs.put_four.Goals as goal
 
 pub returns : goal.returns

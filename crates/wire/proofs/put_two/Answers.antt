@@ -4,7 +4,6 @@ use native.Mathlib.Omega.{arith}
 use lib.ListN.{length-set}
 use native.Mathlib.Numerals.{add-one}
 use Rattle.wire.specs.Le.{le_bytes}
-use borrow.Author.Rules.{rules}
 use Rattle.wire.proofs.put_two.Goals as goal
 
 pub bounds-d-at-2 : goal.bounds-d-at-2

@@ -4,7 +4,6 @@ use mathlib.Core.Path.{sym}
 use native.Mathlib.Numerals.{add-one}
 use Rattle.wire.proofs.Sets.{sets-past}
 use Rattle.wire.specs.Le.{le_bytes}
-use borrow.Author.Rules.{rules}
 use Rattle.wire.proofs.put_u16.Goals as goal
 
 pub returns-then-d-at : goal.returns-then-d-at

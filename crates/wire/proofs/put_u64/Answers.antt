@@ -4,7 +4,6 @@ use mathlib.Core.Path.{sym}
 use Rattle.wire.proofs.Laws.{le_bytes-split, le_bytes-low, le_bytes-length}
 use Rattle.wire.proofs.Sets.{sets-past, sets-append}
 use Rattle.wire.specs.Le.{le_bytes}
-use borrow.Author.Rules.{rules}
 use Rattle.wire.proofs.put_u64.Goals as goal
 
 pub returns-then-d-at : goal.returns-then-d-at

@@ -1,7 +1,6 @@
 -- The sum is the eight bytes by their new weights, and eight bytes are below 2 ^ 64.
 -- Assumes nothing.
 use native.Mathlib.Omega.{arith}
-use borrow.Author.Rules.{rules}
 use Rattle.wire.proofs.Word.{swapped-lt, swapped-eight}
 use Rattle.wire.proofs.swap.Goals as goal
 

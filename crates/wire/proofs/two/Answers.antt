@@ -7,7 +7,6 @@ use lib.ListN.{get_or}
 use native.Mathlib.Nat.{add-zero}
 use Rattle.wire.specs.Le.{le}
 use Rattle.wire.proofs.Laws.{bytes-two}
-use borrow.Author.Rules.{rules}
 use Rattle.wire.proofs.two.Goals as goal
 
 pub returns : goal.returns

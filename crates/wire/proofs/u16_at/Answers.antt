@@ -7,7 +7,6 @@ use lib.ListN.{get_or-eq_default}
 use native.Mathlib.Nat.{add-zero}
 use Rattle.wire.specs.Le.{le}
 use Rattle.wire.proofs.Laws.{le-past}
-use borrow.Author.Rules.{rules}
 use Rattle.wire.proofs.u16_at.Goals as goal
 
 pub returns-then-s-at : goal.returns-then-s-at

@@ -2,7 +2,6 @@
 -- Assumes nothing.
 use mathlib.Core.Path.{sym}
 use Rattle.wire.proofs.Laws.{le-past, le_split}
-use borrow.Author.Rules.{rules}
 use Rattle.wire.proofs.u64_at.Goals as goal
 
 pub returns-then-s-at : goal.returns-then-s-at

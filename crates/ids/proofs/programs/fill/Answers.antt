@@ -2,7 +2,6 @@
 -- Assumes nothing.
 use mathlib.Core.Path.{refl}
 use Rattle.ids.specs.Ids.{ids}
-use borrow.Author.Rules.{rules}
 use Rattle.ids.proofs.programs.fill.Goals as goal
 
 pub keep-requires : goal.keep-requires

@@ -1,8 +1,7 @@
 -- Before turn i the numbers of the first i keys are kept and the others are still 16 (`Kept`), which is what keys past the section have.
 -- Assumes nothing.
 use native.Mathlib.Omega.{arith}
-use Rattle.ids.proofs.Keeping.{Kept, kept-none, kept_more, kept-all}
-use Prim.Native.Nat.{◌-◌, ◌≤◌}
+use Rattle.ids.proofs.Keeping.{kept-none, kept_more, kept-all}
 use Rattle.ids.proofs.programs.keep.Goals as goal
 
 pub loop-i-init : goal.loop-i-init

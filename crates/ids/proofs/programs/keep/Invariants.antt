@@ -1,7 +1,6 @@
 -- Before turn i the numbers of the first i keys are kept and the others are still 16 (`Kept`), which is what keys past the section have.
 -- Assumes nothing.
-use native.Mathlib.Omega.{arith}
-use Rattle.ids.proofs.Keeping.{Kept, kept-none, kept_more, kept-all}
+use Rattle.ids.proofs.Keeping.{Kept}
 use Prim.Native.Nat.{◌-◌, ◌≤◌}
 use Rattle.ids.proofs.programs.keep.Given as goal
 

@@ -2,7 +2,6 @@
 -- Assumes nothing.
 use Rattle.ids.specs.ProgramNumbers.{number_in}
 use borrow.Author.Tests.{lt-ltb, le-ltb}
-use borrow.Author.Rules.{rules}
 use Rattle.ids.proofs.programs.number.Goals as goal
 
 pub returns-then-index-lt256 : goal.returns-then-index-lt256

@@ -5,7 +5,6 @@ use Rattle.ids.specs.ProgramNumbers.{program_number_at}
 use Prim.Native.Nat.{◌+◌, ◌*◌, ◌-◌}
 use mathlib.Core.Path.{◌≡◌}
 use borrow.Author.Tests.{lt-ltb, eq-eqb, ne_eqb}
-use borrow.Author.Rules.{rules}
 use Rattle.ids.proofs.programs.number_at.Goals as goal
 
 pub returns-then-keys-at-ne1 : goal.returns-then-keys-at-ne1

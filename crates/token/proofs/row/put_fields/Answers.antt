@@ -10,7 +10,6 @@ use Rattle.ids.specs.Mints.{mint_of, mint_field}
 use Rattle.ids.proofs.Keys.{key-length, mint-length}
 use Rattle.token.specs.Rows.{transfer_width, row_by_numbers}
 use Rattle.token.proofs.Fields.{fields}
-use borrow.Author.Rules.{rules}
 use Rattle.token.proofs.row.put_fields.Goals as goal
 
 pub returns : goal.returns

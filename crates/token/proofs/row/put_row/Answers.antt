@@ -4,7 +4,6 @@ use Rattle.wire.specs.Le.{le_bytes}
 use Rattle.ids.specs.Keys.{key_of}
 use Rattle.token.specs.Rows.{transfer_row, row_by_numbers}
 use Rattle.token.proofs.Laws.{why-none}
-use borrow.Author.Rules.{rules}
 use borrow.Enum.Refused.{opened}
 use Rattle.token.proofs.row.put_row.Goals as goal
 

@@ -1,0 +1,82 @@
+-- Each call leaves the record that the next one begins with, so the four equations put together are the definition; the rows that were laid are whole, so
+-- every row number fits.
+use Rattle.mints.proofs.Preparing.{laid-is, laid-fits, rows-laid, gathered-is}
+use Rattle.mints.proofs.Working.{sources-within, targets-within, rows_long, counted, noted-few, concluded-is}
+use Rattle.mints.specs.Bytes.{mint_width}
+use Rattle.mints.specs.Prepare.{laid_of}
+use Rattle.ids.specs.Keys.{key_count}
+use lib.ListN.{length, length-replicate}
+use Prim.Native.Nat.{ℕ, ◌*◌, ◌≤◌}
+use mathlib.Core.Path.{◌≡◌, ap, ◌∙◌}
+use native.Mathlib.Omega.{arith}
+use Rattle.mints.proofs.conclude.Goals as goal
+
+pub lay-rows-requires : goal.lay-rows-requires
+lay-rows-requires c =
+    let t = ap length c.requires.2 ∙ length-replicate {A = ℕ} (257 * mint_width) 0 in
+    let r = ap length c.requires.3 ∙ length-replicate {A = ℕ} 256 0 in
+    (omega (arith, r), omega (arith, t), omega (arith, t))
+
+pub note_balances-recorded-requires : goal.note_balances-recorded-requires
+note_balances-recorded-requires c =
+    let lay = c.lay-rows in
+    let a = c.args in
+    let ks = a.keys.now in
+    let few : key_count ks ≤ 256 = omega (arith, c.requires.0) in
+    let rows = laid-is ks a.table.now a.row.now c.requires.2 c.requires.3 lay.ensures in
+    let wide : length lay.new.table ≡ 257 * mint_width = lay.auto.table ∙ ap length c.requires.2 ∙ length-replicate {A = ℕ} (257 * mint_width) 0 in
+    λ i. rw rows at (laid-fits ks few lay.new.table wide i)
+
+pub gather-g-requires : goal.gather-g-requires
+gather-g-requires c =
+    let lay = c.lay-rows in
+    let note-balances = c.note_balances-recorded in
+    let a = c.args in
+    let ks = a.keys.now in
+    let few : key_count ks ≤ 256 = omega (arith, c.requires.0) in
+    let rows = laid-is ks a.table.now a.row.now c.requires.2 c.requires.3 lay.ensures in
+    let wide : length lay.new.table ≡ 257 * mint_width = lay.auto.table ∙ ap length c.requires.2 ∙ length-replicate {A = ℕ} (257 * mint_width) 0 in
+    let noted : length note-balances.new.table ≡ length lay.new.table = note-balances.auto.table in
+    record { at_in_bounds = (c.requires.1, c.requires.1, c.requires.1); fits = (λ i. rw rows at (laid-fits ks few note-balances.new.table (noted ∙ wide) i), few) }
+
+pub overflow_add-recorded : goal.overflow_add-recorded
+overflow_add-recorded c =
+    let a = c.args in
+    let ks = a.keys.now in
+    let few : key_count ks ≤ 256 = omega (arith, c.requires.0) in
+    let rows = laid-is ks a.table.now a.row.now c.requires.2 c.requires.3 c.lay-rows.ensures in
+    let e = gathered-is ks a.balances.now a.pack.now a.at.now rows c.note_balances-recorded.ensures c.gather-g.ensures.to_value in
+    omega (arith, noted-few ks a.balances.now a.pack.now a.at.now few c.requires.1 e (omega arith))
+
+pub hand_on-ran-requires : goal.hand_on-ran-requires
+hand_on-ran-requires c =
+    let a = c.args in
+    let ks = a.keys.now in
+    let few : key_count ks ≤ 256 = omega (arith, c.requires.0) in
+    let rows = laid-is ks a.table.now a.row.now c.requires.2 c.requires.3 c.lay-rows.ensures in
+    let e = gathered-is ks a.balances.now a.pack.now a.at.now rows c.note_balances-recorded.ensures c.gather-g.ensures.to_value in
+    let fit : (laid_of ks).rows ≤ 257 = omega (arith, (rows-laid ks few).few) in
+    let k = counted ks a.balances.now a.pack.now a.at.now few c.requires.1 e in record {
+      n_bound = (
+        k.0,
+        noted-few ks a.balances.now a.pack.now a.at.now few c.requires.1 e (omega arith),
+        rw rows at fit,
+        rw rows at (rows_long ks a.balances.now a.pack.now a.at.now few c.requires.1 e),
+      );
+      n_in_bounds = (
+        k.1,
+        k.2,
+        λ i. rw rows at (sources-within ks a.balances.now a.pack.now a.at.now few c.requires.1 e i),
+        λ i. rw rows at (targets-within ks a.balances.now a.pack.now a.at.now few c.requires.1 e i),
+      );
+    }
+
+pub returns : goal.returns
+returns c =
+    let gather = c.gather-g in
+    let a = c.args in
+    let ks = a.keys.now in
+    let few : key_count ks ≤ 256 = omega (arith, c.requires.0) in
+    let rows = laid-is ks a.table.now a.row.now c.requires.2 c.requires.3 c.lay-rows.ensures in
+    let e = gathered-is ks a.balances.now a.pack.now a.at.now rows c.note_balances-recorded.ensures gather.ensures.to_value in
+    record { at_value = concluded-is ks a.balances.now a.pack.now a.at.now few c.requires.1 e rows c.hand_on-ran.ensures; programs_after = gather.ensures.programs_after }

@@ -1,0 +1,75 @@
+-- Each turn lays one key more, and `ends` goes on holding the last byte of every row, because a new row ends as its key does.
+use Rattle.mints.proofs.Search.{within}
+use Rattle.ids.proofs.Keys.{key-length}
+use Rattle.mints.proofs.Laying.{lay-next, one-row, ends-first, ends_more}
+use Rattle.mints.specs.Cells.{with_state}
+use Rattle.mints.specs.Lay.{lay_to}
+use Rattle.ids.specs.Keys.{zero_key, key_count, key_of}
+use lib.ListN.{length, set, length-set}
+use mathlib.Core.Path.{◌≡◌, refl, ap, ◌∙◌}
+use native.Mathlib.Omega.{arith}
+use Rattle.mints.proofs.table.lay_marking.Goals as goal
+
+pub loop-i-init : goal.loop-i-init
+unfolding lay_to zero_key
+loop-i-init c =
+    let a = c.args in
+    let w : length a.ends.now ≡ 256 = c.requires.3 in (
+      omega arith,
+      refl,
+      refl,
+      omega arith,
+      simp length-set (omega arith),
+      refl,
+      simp length-set w,
+      ends-first (set a.table.now 64 1) a.ends.now c.byte.ensures (omega (arith, w)),
+    )
+
+pub slice_bounds-key-end : goal.slice_bounds-key-end
+slice_bounds-key-end c = refl
+
+pub row_for-r-requires : goal.row_for-r-requires
+unfolding zero_key
+row_for-r-requires c =
+    let l = c.loop-i in
+    let a = c.args in
+    (ap length c.key-key.ensures ∙ key-length a.keys.now l.i, omega arith, l.invariant.7)
+
+pub overflow_cast-row : goal.overflow_cast-row
+overflow_cast-row c =
+    let l = c.loop-i in
+    omega (arith, c.row_for-r.ensures, within l.table c.key-key.result.now l.rows 0)
+
+pub loop-i-preserved : goal.loop-i-preserved
+unfolding zero_key
+loop-i-preserved c =
+    let row-for = c.row_for-r in
+    let add = c.add-rows in
+    let l = c.loop-i in
+    let a = c.args in
+    let q = add.ensures in
+    let k : length add.new.table ≡ length l.table = add.auto.table in
+    let key = c.key-key in (
+      omega arith,
+      k ∙ l.invariant.1,
+      simp length-set l.invariant.2,
+      omega (arith, q.value, one-row row-for.result l.rows),
+      omega (arith, k, l.invariant.4),
+      lay-next (key_of a.keys.now) _ a.row.now l.i (record { table = l.table; row = l.row; rows = l.rows }) l.invariant.5 key.ensures row-for.ensures q.table_after q.value,
+      simp length-set l.invariant.6,
+      ends_more l.table key.result.now l.ends l.rows row-for.result l.invariant.7 (ap length key.ensures ∙ key-length a.keys.now l.i) (omega arith) c.byte-in-loop-i.ensures (omega (arith, l.invariant.6)) q.table_after q.value,
+    )
+
+pub shape_of-table : goal.shape_of-table
+shape_of-table c = simp length-set at c.loop-i.invariant.1
+
+pub shape_of-row : goal.shape_of-row
+shape_of-row c = c.loop-i.invariant.2
+
+pub returns : goal.returns
+unfolding with_state
+returns c =
+    let l = c.loop-i in
+    let a = c.args in
+    let n : l.i ≡ key_count a.keys.now = omega arith in
+    rw n at l.invariant.5

@@ -1,0 +1,22 @@
+-- What the rows left and the lines left give together, before the rows that are done, is always what all of them give. Each turn puts in the last line left.
+-- Assumes nothing.
+use Rattle.std.proofs.Common.{◌≡◌, ◌+◌, ◌≤◌, false, ◌++◌, length, take, drop}
+use mathlib.Core.List.{Memᴰ}
+use Rattle.month.specs.Transfers.{Line}
+use Rattle.month.specs.Report.{Sorted, lines_of}
+use Rattle.month.specs.Adding.{add_rows, among}
+use Rattle.month.specs.Bytes.{rows_to}
+use Rattle.month.specs.Lookup.{lines_numbered, empty_rows}
+use Rattle.month.proofs.empty.put_in.Given as goal
+
+abbrev pub invariant-loop-j : goal.invariant-loop-j
+invariant-loop-j l = (l.i ≤ l.rows)
+    × (l.j ≤ l.k)
+    × (length l.line ≡ 66)
+    × (length l.report ≡ length l.initial.report)
+    × Sorted (rows_to l.report l.i)
+    × ((x : Line) → Memᴰ x (lines_numbered l.t (take l.k l.numbers)) → among x (lines_of (rows_to l.report l.i)) ≡ false)
+    × (add_rows (rows_to l.report l.i) (empty_rows (lines_numbered l.t (take l.j l.numbers))) ++ drop (l.i + l.j) (rows_to l.report (l.rows + l.k)) ≡ add_rows (rows_to l.initial.report l.rows) (empty_rows (lines_numbered l.t (take l.k l.numbers))))
+
+abbrev pub decreases-loop-j : goal.decreases-loop-j
+decreases-loop-j l = l.j

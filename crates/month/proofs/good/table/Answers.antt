@@ -1,0 +1,38 @@
+-- As long as the loop runs, all flags passed are good; one that is not makes the table bad (`table-cut`).
+use Rattle.std.proofs.Common.{◌+◌, ◌*◌, leb, get_or, sym, refl, add-one, arith, ne_eqb, le-leb}
+use mathlib.Core.Bool.{and-false}
+use borrow.Author.Tests.{lt-leb}
+use Rattle.month.specs.Bytes.{flags_to, good_table}
+use Rattle.month.proofs.Prefixes.{table-cut, table-whole}
+use Rattle.month.proofs.good.table.Goals as goal
+
+pub returns-then-t-ne0 : goal.returns-then-t-ne0
+unfolding good_table
+returns-then-t-ne0 c = simp (ne_eqb _ _ c.if-t-ne0.true)
+
+pub loop-i-init : goal.loop-i-init
+unfolding flags_to
+loop-i-init c = (omega arith, refl)
+
+pub returns-then-t-at-gt1 : goal.returns-then-t-at-gt1
+returns-then-t-at-gt1 c =
+    let l = c.loop-i in
+    let t = c.args.t.now in
+    sym (table-cut t l.i (omega arith) (rw (lt-leb _ _ c.if-t-at-gt1.true)))
+
+pub returns-then-t-at-gt1-2 : goal.returns-then-t-at-gt1-2
+returns-then-t-at-gt1-2 c =
+    let l = c.loop-i in
+    let t = c.args.t.now in
+    sym (table-cut t l.i (omega arith) (rw (lt-leb _ _ c.if-t-at-gt1-2.true) (and-false (leb (get_or t (l.i * 150 + 100) 0) 1))))
+
+pub loop-i-preserved : goal.loop-i-preserved
+unfolding flags_to
+loop-i-preserved c =
+    let l = c.loop-i in
+    (omega arith, simp (add-one, l.invariant.1, le-leb _ _ c.if-t-at-gt1.false, le-leb _ _ c.if-t-at-gt1-2.false))
+
+pub returns : goal.returns
+returns c =
+    let l = c.loop-i in
+    sym (table-whole c.args.t.now l.i c.if-t-ne0.false (omega arith) l.invariant.1)

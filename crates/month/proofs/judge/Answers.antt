@@ -1,0 +1,55 @@
+-- The tests are made in the order of `feed`, and each has its law in Answers.
+use Rattle.std.proofs.Common.{◌≡◌, ◌+◌, true, length, sym, ap, ◌∙◌, arith, ltb-false, lt-ltb}
+use Rattle.month.specs.Bytes.{transfers_in, Books, stays, holds, good_table, good_report}
+use Rattle.month.proofs.Answers.{Passed, transfers-count, refused-19, refused-20, refused-9, refused-10, passed-holds, good-stands}
+use Rattle.month.proofs.judge.Goals as goal
+use Rattle.month.proofs.judge.Goals.{Else-not-report, Else-not-table}
+
+-- what is known behind the first two tests
+table_good : (c : Else-not-table) → good_table c.args.transfers.now ≡ true
+table_good c = sym c.table.ensures ∙ c.if-not-table.false
+
+report_good : (c : Else-not-report) → good_report c.args.report.now c.args.rows c.args.fed ≡ true
+report_good c = sym c.report.ensures ∙ c.if-not-report.false
+
+pub returns-then-not-table : goal.returns-then-not-table
+unfolding stays
+returns-then-not-table c =
+    let a = c.args in
+    sym (ap (λ (x : Books). x.number) (refused-19 a.report.now a.rows a.fed a.transfers.now (sym c.table.ensures ∙ c.if-not-table.true)))
+
+pub returns-then-not-report : goal.returns-then-not-report
+unfolding stays
+returns-then-not-report c =
+    let a = c.args in
+    sym (ap (λ (x : Books). x.number) (refused-20 a.report.now a.rows a.fed a.transfers.now (table_good (goal.at.returns-then-not-report c).Else-not-table) (sym c.report.ensures ∙ c.if-not-report.true)))
+
+pub full-requires : goal.full-requires
+full-requires c =
+    let a = c.args in
+    good-stands a.report.now a.rows a.fed (report_good (goal.at.full-requires c).Else-not-report)
+
+pub returns-then-full : goal.returns-then-full
+unfolding stays
+returns-then-full c =
+    let a = c.args in
+    sym (ap (λ (x : Books). x.number) (refused-9 a.report.now a.rows a.fed a.transfers.now (table_good (goal.at.returns-then-full c).Else-not-table) (report_good (goal.at.returns-then-full c).Else-not-report) (sym c.full.ensures ∙ c.if-full.true)))
+
+pub returns-then-left-transfers : goal.returns-then-left-transfers
+unfolding stays
+returns-then-left-transfers c =
+    let a = c.args in
+    sym (ap (λ (x : Books). x.number) (refused-10 a.report.now a.rows a.fed a.transfers.now (table_good (goal.at.returns-then-left-transfers c).Else-not-table) (report_good (goal.at.returns-then-left-transfers c).Else-not-report) (sym c.full.ensures ∙ c.if-full.false) (lt-ltb 4294967295 (a.fed + length (transfers_in a.transfers.now)) (omega (arith, transfers-count a.transfers.now)))))
+
+pub returns : goal.returns
+unfolding holds
+returns c =
+    let a = c.args in
+    let p : Passed a.report.now a.rows a.fed a.transfers.now
+    = record {
+      table_good = table_good (goal.at.returns c).Else-not-table;
+      report_good = report_good (goal.at.returns c).Else-not-report;
+      room = ltb-false _ _ (sym c.full.ensures ∙ c.if-full.false);
+      limit = omega (arith, transfers-count a.transfers.now);
+    } in
+    sym (ap (λ (x : Books). x.number) (passed-holds p))

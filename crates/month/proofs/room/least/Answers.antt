@@ -1,0 +1,39 @@
+-- What is held are the least new lines of the transfers passed, and one transfer more makes it those of one more.
+use Rattle.month.proofs.Gathering.{none-gathered, one-gathered, transfers-more}
+use Rattle.month.specs.Report.{lines_of}
+use Rattle.month.specs.Bytes.{rows_to, transfers_to, transfers_in}
+use Rattle.month.specs.Lookup.{fed_at}
+use Rattle.std.proofs.Common.{◌≡◌, ◌/◌, length, refl, ◌∙◌, arith}
+use Rattle.month.proofs.room.least.Goals as goal
+
+-- src/room.rt:25:5
+pub loop-i-init : goal.loop-i-init
+unfolding transfers_to
+loop-i-init c =
+    let a = c.args in
+    (omega arith, refl, none-gathered a.t.now a.numbers.now (length a.numbers.now) (lines_of (rows_to a.report.now a.rows)) a.bound.now)
+
+-- src/room.rt:26:9
+pub note_lines-k-requires : goal.note_lines-k-requires
+note_lines-k-requires c =
+    (c.requires, omega arith, c.loop-i.invariant.2.holds_lines)
+
+-- src/room.rt:25:5
+pub loop-i-preserved : goal.loop-i-preserved
+loop-i-preserved c =
+    let a = c.args in
+    let l = c.loop-i in
+    let n = c.note_lines-k in (
+      omega arith,
+      n.auto.numbers ∙ l.invariant.1,
+      rw (transfers-more a.t.now l.i)
+          (one-gathered (lines_of (rows_to a.report.now a.rows)) a.bound.now (transfers_to a.t.now l.i) (fed_at a.t.now l.i) l.invariant.1 l.invariant.2 n.ensures),
+    )
+
+-- src/room.rt:16:1
+pub returns : goal.returns
+unfolding transfers_in
+returns c =
+    let l = c.loop-i in
+    let e : l.i ≡ length c.args.t.now / 150 = omega arith in
+    rw e at l.invariant.2
