@@ -2,7 +2,6 @@
 -- Assumes nothing.
 use Rattle.listing.proofs.Putting.{puts-next}
 use Rattle.listing.specs.Listing.{counts}
-use borrow.Author.Rules.{rules}
 use Rattle.listing.proofs.counts.Goals as goal
 
 pub returns : goal.returns

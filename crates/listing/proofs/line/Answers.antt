@@ -4,7 +4,6 @@
 use Rattle.listing.proofs.Putting.{puts-next, puts-byte}
 use Rattle.listing.specs.Listing.{line}
 use native.Mathlib.Omega.{arith}
-use borrow.Author.Rules.{rules}
 use Rattle.listing.proofs.line.Goals as goal
 
 pub returns : goal.returns

@@ -7,8 +7,6 @@ use mathlib.Core.Path.{◌≡◌, ap, ◌∙◌}
 use Rattle.listing.proofs.Putting.{puts_none, puts-wider}
 use Rattle.listing.proofs.Listing.{puts-line}
 use Rattle.listing.specs.Listing.{lines_from}
-use Rattle.listing.specs.Puts.{PutsText}
-use Prim.Native.Nat.{◌*◌, ◌-◌, ◌≤◌}
 use native.Mathlib.Omega.{arith}
 use Rattle.listing.proofs.lines.Goals as goal
 

@@ -5,7 +5,6 @@ use Rattle.listing.proofs.Room.{rows_fit}
 use Rattle.listing.specs.Listing.{route_of, listing}
 use Prim.Native.Nat.{◌*◌, ◌≤◌}
 use native.Mathlib.Omega.{arith}
-use borrow.Author.Rules.{rules}
 use Rattle.listing.proofs.list.Goals as goal
 
 pub listed-requires : goal.listed-requires

@@ -4,7 +4,6 @@ use Rattle.listing.proofs.Putting.{puts-next, puts-wider}
 use Rattle.listing.specs.Listing.{listed}
 use borrow.Author.Tests.{eq-eqb, ne_eqb}
 use native.Mathlib.Omega.{arith}
-use borrow.Author.Rules.{rules}
 use Rattle.listing.proofs.listed.Goals as goal
 
 pub returns-then-a-ne0 : goal.returns-then-a-ne0

@@ -2,7 +2,6 @@
 -- Assumes nothing.
 use Rattle.listing.proofs.Putting.{puts-next}
 use Rattle.listing.specs.Listing.{word_number}
-use borrow.Author.Rules.{rules}
 use Rattle.listing.proofs.named.Goals as goal
 
 pub returns : goal.returns

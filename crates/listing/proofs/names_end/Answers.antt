@@ -4,7 +4,6 @@ use lib.ListN.{drop_of_length-le}
 use lib.Seq.{take_all, take-length, drop-length}
 use mathlib.Core.Path.{sym, ◌∙◌}
 use native.Mathlib.Omega.{arith}
-use borrow.Author.Rules.{rules}
 use Rattle.listing.proofs.names_end.Goals as goal
 
 pub returns-then-input-lt88 : goal.returns-then-input-lt88

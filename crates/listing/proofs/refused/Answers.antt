@@ -2,7 +2,6 @@
 -- Assumes nothing.
 use Rattle.listing.proofs.Putting.{puts-next}
 use Rattle.listing.specs.Listing.{refusal_line}
-use borrow.Author.Rules.{rules}
 use Rattle.listing.proofs.refused.Goals as goal
 
 pub returns : goal.returns

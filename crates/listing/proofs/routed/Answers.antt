@@ -7,7 +7,6 @@ use lib.ListN.{length, drop, length-drop}
 use lib.Seq.{take_all}
 use mathlib.Core.Path.{◌∙◌}
 use native.Mathlib.Omega.{arith}
-use borrow.Author.Rules.{rules}
 use Rattle.listing.proofs.routed.Goals as goal
 
 pub returns : goal.returns

@@ -10,8 +10,7 @@ use Rattle.finder.proofs.Claims.{met_by, met-few}
 use Rattle.listing.proofs.Putting.{puts_none, puts-wider}
 use Rattle.listing.proofs.Drawing.{puts-branch}
 use Rattle.listing.specs.Tree.{branch_of, first_lines}
-use Rattle.listing.specs.Puts.{PutsText}
-use Prim.Native.Nat.{ℕ, ◌+◌, ◌*◌, ◌-◌, ◌≤◌}
+use Prim.Native.Nat.{ℕ, ◌≤◌}
 use native.Mathlib.Omega.{arith}
 use Rattle.listing.proofs.tree.branches.Goals as goal
 

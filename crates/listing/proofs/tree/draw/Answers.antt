@@ -9,7 +9,6 @@ use lib.Seq.{take_all}
 use mathlib.Core.Path.{◌≡◌, ◌∙◌}
 use Prim.Native.Nat.{◌-◌}
 use native.Mathlib.Omega.{arith}
-use borrow.Author.Rules.{rules}
 use Rattle.listing.proofs.tree.draw.Goals as goal
 
 pub returns-then-a-ne0 : goal.returns-then-a-ne0

@@ -2,7 +2,6 @@
 -- Assumes nothing.
 use Rattle.listing.proofs.Putting.{puts-next}
 use Rattle.listing.specs.Tree.{tree_head}
-use borrow.Author.Rules.{rules}
 use Rattle.listing.proofs.tree.head.Goals as goal
 
 pub returns : goal.returns

@@ -6,8 +6,6 @@ use mathlib.Core.Path.{◌≡◌, ap, ◌∙◌}
 use Rattle.listing.proofs.Putting.{puts_none}
 use Rattle.listing.proofs.Drawing.{puts-number}
 use Rattle.listing.specs.Tree.{spaced_all}
-use Rattle.listing.specs.Puts.{PutsText}
-use Prim.Native.Nat.{◌*◌, ◌-◌, ◌≤◌}
 use native.Mathlib.Omega.{arith}
 use Rattle.listing.proofs.tree.numbers.Goals as goal
 

@@ -1,14 +1,9 @@
 -- The numbers before i stand one behind the other, each of at most 11 bytes with its space.
 -- Assumes nothing.
-use lib.ListN.{length, take}
-use lib.Seq.{length-sets}
-use mathlib.Core.Path.{◌≡◌, ap, ◌∙◌}
-use Rattle.listing.proofs.Putting.{puts_none}
-use Rattle.listing.proofs.Drawing.{puts-number}
+use lib.ListN.{take}
 use Rattle.listing.specs.Tree.{spaced_all}
 use Rattle.listing.specs.Puts.{PutsText}
 use Prim.Native.Nat.{◌*◌, ◌-◌, ◌≤◌}
-use native.Mathlib.Omega.{arith}
 use Rattle.listing.proofs.tree.numbers.Given as goal
 
 abbrev pub invariant-loop-i : goal.invariant-loop-i

@@ -6,7 +6,6 @@ use Rattle.subtrees.specs.Subtrees.{odd}
 use Prim.Native.Nat.{ℕ, ◌+◌, ◌*◌, ◌/◌}
 use mathlib.Core.Bool.{Bool, true, false, cond}
 use mathlib.Core.Path.{◌≡◌, refl, ap, ap₂, ◌∙◌}
-use borrow.Author.Rules.{rules}
 use Rattle.listing.proofs.tree.own_in.Goals as goal
 
 twice : (b : Bool) → cond b 1 0 * 2 ≡ cond b 2 0

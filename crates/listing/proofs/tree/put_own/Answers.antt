@@ -4,8 +4,6 @@ use Rattle.listing.specs.Listing.{row_in}
 use Rattle.listing.specs.Tree.{own_in}
 use Rattle.route.proofs.Rows.{array-more}
 use Rattle.wire.specs.Tab.{tab}
-use lib.Seq.{sets}
-use Prim.Native.Nat.{◌-◌, ◌≤◌}
 use native.Mathlib.Nat.{add-sub_cancel_left}
 use mathlib.Core.Path.{◌≡◌, refl}
 use native.Mathlib.Omega.{arith}

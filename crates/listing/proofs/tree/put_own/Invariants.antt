@@ -2,13 +2,10 @@
 -- Assumes nothing.
 use Rattle.listing.specs.Listing.{row_in}
 use Rattle.listing.specs.Tree.{own_in}
-use Rattle.route.proofs.Rows.{array-more}
 use Rattle.wire.specs.Tab.{tab}
 use lib.Seq.{sets}
 use Prim.Native.Nat.{◌-◌, ◌≤◌}
-use native.Mathlib.Nat.{add-sub_cancel_left}
-use mathlib.Core.Path.{◌≡◌, refl}
-use native.Mathlib.Omega.{arith}
+use mathlib.Core.Path.{◌≡◌}
 use Rattle.listing.proofs.tree.put_own.Given as goal
 
 abbrev pub invariant-loop-i : goal.invariant-loop-i
