@@ -25,13 +25,13 @@ returns c =
     let z = c.clear.auto in
     let f = c.fill-answer in
     leaves
-    (record { mints = z.0; invocations = z.1.0; transfers = z.1.1.0; legs = z.1.1.1.0; natives = z.1.1.1.1.0 })
+    (record { mints = z.t0; invocations = z.t1; transfers = z.t2; legs = z.t3; natives = z.t4 })
     (record {
-      mints = f.auto.1.1.0 ∙ z.0;
-      invocations = f.auto.1.1.1.0 ∙ z.1.0;
-      transfers = f.auto.1.1.1.1.0 ∙ z.1.1.0;
-      legs = f.auto.1.1.1.1.1.0 ∙ z.1.1.1.0;
-      natives = f.auto.1.1.1.1.1.1.0 ∙ z.1.1.1.1.0;
+      mints = f.auto.t0 ∙ z.t0;
+      invocations = f.auto.t1 ∙ z.t1;
+      transfers = f.auto.t2 ∙ z.t2;
+      legs = f.auto.t3 ∙ z.t3;
+      natives = f.auto.t4 ∙ z.t4;
     })
     f.ensures
     c.settle.ensures

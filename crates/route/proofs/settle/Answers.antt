@@ -21,9 +21,9 @@ returns c =
     let z = c.clear.ensures in
     let k = c.clear.auto in
     record {
-      mints = rw n (z.mints ∙ ap zeros k.0);
-      invocations = rw n (z.invocations ∙ ap zeros k.1.0);
-      transfers = rw n (z.transfers ∙ ap zeros k.1.1.0);
-      legs = rw n (z.legs ∙ ap zeros k.1.1.1.0);
-      natives = rw n (z.natives ∙ ap zeros k.1.1.1.1.0);
+      mints = rw n (z.mints ∙ ap zeros k.t0);
+      invocations = rw n (z.invocations ∙ ap zeros k.t1);
+      transfers = rw n (z.transfers ∙ ap zeros k.t2);
+      legs = rw n (z.legs ∙ ap zeros k.t3);
+      natives = rw n (z.natives ∙ ap zeros k.t4);
     }

@@ -57,30 +57,26 @@ returns-then-not-sized c =
     let v = instruction_at a.pack.now a.x.at in
     let ks = a.keys.now in
     let e : sized_of (program_of ks v) (length v.bytes) ≡ false =
-    rw (← c.requires.2, ← c.«data».ensures) (sym c.sized.ensures ∙ c.if-not-sized.true) in
+    rw (← c.requires.2, ← c.data-data.ensures) (sym c.sized.ensures ∙ c.if-not-sized.true) in
     record {
       few = omega arith;
       counted = λ table h. rw (unasked (key_of ks) (key_count ks) (program_of ks v) v.accounts v.bytes (mint_in table) e);
       rows = λ table h. rw (unasked (key_of ks) (key_count ks) (program_of ks v) v.accounts v.bytes (mint_in table) e);
     }
 
--- where the call began, its keys and its instruction
-abbrev start : After-count → Start
-start c = @AT:Start@
-
 abbrev keys : After-count → List ℕ
-keys c = (start c).args.keys.now
+keys c = c.args.keys.now
 
 abbrev item : After-count → Instruction
-item c = instruction_at (start c).args.pack.now (start c).args.x.at
+item c = instruction_at c.args.pack.now c.args.x.at
 
 -- what the instruction asks for
 formed : (c : After-count) → c.form-asked.result ≡ form_of (program_of (keys c) (item c)) (item c).accounts (item c).bytes
 formed c =
     let a = c.accounts-accounts in
-    let d = c.«data» in
+    let d = c.data-data in
     c.form-asked.ensures
-    ∙ ap (λ (i : Id). form_of i a.result.now d.result.now) (start c).requires.2
+    ∙ ap (λ (i : Id). form_of i a.result.now d.result.now) c.requires.2
     ∙ ap (λ (l : List ℕ). form_of (program_of (keys c) (item c)) l d.result.now) a.ensures
     ∙ ap (λ (l : List ℕ). form_of (program_of (keys c) (item c)) (item c).accounts l) d.ensures
 
@@ -89,7 +85,7 @@ held : (c : After-count) → c.held.result ≡ acted_of (program_of (keys c) (it
 held c = c.held.ensures ∙ ap held_by (formed c)
 
 -- what is settled is the instruction's action
-value : (c : After-count) (table : List MintRow) → Holds (start c).args.mints.now (keys c) table → action_value (key_of (keys c)) c.settle-native.result ≡ action_of (keys c) table (item c)
+value : (c : After-count) (table : List MintRow) → Holds c.args.mints.now (keys c) table → action_value (key_of (keys c)) c.settle-native.result ≡ action_of (keys c) table (item c)
 unfolding action_of
 value c table h =
     let ks = keys c in
@@ -98,7 +94,7 @@ value c table h =
     let small : i < 256 = rw (← (held c)) (omega arith) in
     let a = c.accounts-accounts in
     let m = c.mint in
-    let minted : mint_of m.result.now ≡ mint_in table (key_of ks i) = ap mint_of (m.ensures ∙ ap (known_mint (start c).args.mints.now) (held c)) ∙ h i small in
+    let minted : mint_of m.result.now ≡ mint_in table (key_of ks i) = ap mint_of (m.ensures ∙ ap (known_mint c.args.mints.now) (held c)) ∙ h i small in
     ap (action_value (key_of ks))
     (c.settle-native.ensures
     ∙ ap (λ (f : Native). settled (key_count ks) f a.result.now (mint_of m.result.now)) (formed c)
@@ -109,7 +105,7 @@ value c table h =
 pub returns : goal.returns
 unfolding action_rows
 returns c =
-    let a = (start (goal.at.returns c).After-count).args in
+    let a = c.args in
     let native = c.settle-native.result in
     record {
       few = rw c.count.ensures (count-le native);

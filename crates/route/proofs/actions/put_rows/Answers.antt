@@ -38,11 +38,11 @@ loop-i-preserved c =
     let f = action_rows (section_of a.pack.now 0) in
     let put = c.put_one-r in
     let id = c.of_number.result in
-    let one : Puts a.mints.now (section_of a.pack.now 0) a.pack.now f action_width (candidate a.at.now id l.i l.k) put.result l.out put.new.1.1.1.1.0 =
+    let one : Puts a.mints.now (section_of a.pack.now 0) a.pack.now f action_width (candidate a.at.now id l.i l.k) put.result l.out put.new.out =
     rw (c.section-keys.ensures, c.wide.ensures) at put.ensures in (
       omega arith,
       omega (arith, c.wide-k.ensures, one.few),
-      put.auto.1.1.1.1.0 ∙ l.invariant.2,
+      put.auto.out ∙ l.invariant.2,
       rw c.wide-k.ensures (fills-more a.mints.now a.pack.now a.at.now f id action_width l.i l.k put.result a.out.now l.out _ l.invariant.3 one),
     )
 

@@ -21,7 +21,7 @@ use Rattle.route.proofs.invocations.put_rows.Reads as invocations-put-rows-reads
 use Rattle.route.proofs.legs.put_rows.Reads as legs-put-rows-reads
 use Rattle.route.proofs.transfers.put_rows.Reads as transfers-put-rows-reads
 use Rattle.route.proofs.fill.fill.Goals as goal
-use Rattle.route.proofs.fill.fill.Goals.{After-infer-inferred, Start}
+use Rattle.route.proofs.fill.fill.Goals.{After-infer-inferred}
 
 pub returns-then-names-ne88 : goal.returns-then-names-ne88
 returns-then-names-ne88 c = refused-names c.if-names-ne88.true c.refusal.ensures
@@ -36,26 +36,23 @@ slice_bounds-infer-end c =
     let p = c.args.pack.now in
     let f = c.flatten-flat in
     let e : refusal_number (verdict p) ≡ 0 = sym (c.number.ensures ∙ ap refusal_number f.ensures.0) ∙ c.if-number-ne0.false in
-    omega (arith, few p f.result.count f.new.1.0 f.new.1.1.0 f.new.1.1.1.0 f.new.1.1.1.1.0 e f.ensures.1, at_length p f.result.count f.new.1.0 f.new.1.1.0 f.new.1.1.1.0 f.new.1.1.1.1.0 e f.ensures.1)
+    omega (arith, few p f.result.count f.new.at f.new.outer f.new.inner f.new.height e f.ensures.1, at_length p f.result.count f.new.at f.new.outer f.new.inner f.new.height e f.ensures.1)
 
--- once the mints are inferred: where the call began, its pack, and that the pack is not refused
-abbrev start : After-infer-inferred → Start
-start m = @AT:Start@
-
+-- once the mints are inferred: the call's pack, and that it is not refused
 abbrev pack : After-infer-inferred → List ℕ
-pack m = (start m).args.pack.now
+pack m = m.args.pack.now
 
 good : (m : After-infer-inferred) → refusal_number (verdict (pack m)) ≡ 0
 good m = sym (m.number.ensures ∙ ap refusal_number m.flatten-flat.ensures.0) ∙ m.if-number-ne0.false
 
 -- what is known then
-began : (m : After-infer-inferred) → Begun (pack m) m.flatten-flat.result.count m.flatten-flat.new.at m.flatten-flat.new.outer m.flatten-flat.new.inner m.flatten-flat.new.height (start m).args.t0.now m.infer-inferred.new.rows m.infer-inferred.new.known m.infer-inferred.new.programs m.infer-inferred.result
+began : (m : After-infer-inferred) → Begun (pack m) m.flatten-flat.result.count m.flatten-flat.new.at m.flatten-flat.new.outer m.flatten-flat.new.inner m.flatten-flat.new.height m.args.t0.now m.infer-inferred.new.rows m.infer-inferred.new.known m.infer-inferred.new.programs m.infer-inferred.result
 began m =
     let f = m.flatten-flat in
     let k0 = m.section in
     let k1 = m.section-2 in
     let i = m.infer-inferred.ensures in
-    begun (pack m) f.result.count f.new.1.0 f.new.1.1.0 f.new.1.1.1.0 f.new.1.1.1.1.0 (good m) f.ensures.1 k0.result.now k1.result.now k0.ensures k1.ensures (start m).args.t0.now i.0 i.1.0 i.1.1.0 i.1.1.1
+    begun (pack m) f.result.count f.new.at f.new.outer f.new.inner f.new.height (good m) f.ensures.1 k0.result.now k1.result.now k0.ensures k1.ensures m.args.t0.now i.value i.rows_after i.known_after i.programs_after
 
 pub returns-in_default : goal.returns-in_default
 returns-in_default c =
@@ -128,29 +125,29 @@ returns c =
     let fourth = c.put_rows-natives in
     let first = c.put_rows-tests in
     filled (record {
-      tables = b.tables (start (goal.at.returns c).After-infer-inferred).args.names.now;
+      tables = b.tables c.args.names.now;
       mints = b.mints;
       rows = b.rows;
       finished =
           recast k.0 k.1 k.2
-          (finished {t0 = (start (goal.at.returns c).After-infer-inferred).args.t0.now} {o0 = c.infer-inferred.new.rows} (record {
+          (finished {t0 = c.args.t0.now} {o0 = c.infer-inferred.new.rows} (record {
             few = b.few;
             known = b.kept;
-            transfers = second.ensures.0;
-            reasoned = second.ensures.1;
-            legs = third.ensures.0;
-            numbers = third.ensures.1;
+            transfers = second.ensures.fills;
+            reasoned = second.ensures.reasons_after;
+            legs = third.ensures.fills;
+            numbers = third.ensures.numbers;
             actions = fourth.ensures;
             rows = first.ensures;
             answer = c.fit.ensures;
             kept =
                 record {
                   mints = c.infer-inferred.auto.rows;
-                  invocations = first.auto.1.1.1.1.1.1.1.0;
-                  transfers = second.auto.1.1.1.1.1.0;
-                  legs = third.auto.1.1.1.1.1.1.0;
-                  natives = fourth.auto.1.1.1.1.1.0;
+                  invocations = first.auto.out;
+                  transfers = second.auto.out;
+                  legs = third.auto.out;
+                  natives = fourth.auto.out;
                 };
           }) b.table.rows b.holds);
-      cleared = (start (goal.at.returns c).After-infer-inferred).requires;
+      cleared = c.requires;
     }) c.if-names-ne88.false (good (goal.at.returns c).After-infer-inferred)

@@ -44,7 +44,7 @@ loop-i-preserved c =
     let blocks = blocked a.outer.now a.inner.now a.height.now a.n c.requires c.subtrees-tests.ensures in
     let put = c.put_row in (
       omega arith,
-      put.auto.0 ∙ l.invariant.1,
+      put.auto.out ∙ l.invariant.1,
       placed-more invocation_width (row_at ps a.programs.now a.reasons.now a.leg.now) l.i a.out.now l.out _ l.invariant.2
           (put.ensures ∙ rw (c.bits-b.ensures, ← (row_by a.n _ a.outer.now a.inner.now a.height.now a.programs.now a.reasons.now a.leg.now _ _ _ _ c.requires c.put_own.ensures blocks l.i (omega arith)))),
     )

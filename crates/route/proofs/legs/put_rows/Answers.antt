@@ -43,11 +43,11 @@ loop-i-preserved c =
     let f = leg_rows_in a.names.now a.pack.now in
     let put = c.put_one-r in
     let id = c.of_number.result in
-    let one : Puts a.mints.now (section_of a.pack.now 0) a.pack.now f leg_width (candidate a.at.now id l.i l.k) put.result l.out put.new.1.1.1.1.1.1.0 =
+    let one : Puts a.mints.now (section_of a.pack.now 0) a.pack.now f leg_width (candidate a.at.now id l.i l.k) put.result l.out put.new.out =
     rw (c.section-keys.ensures, c.section-pools.ensures, c.wide.ensures) at put.ensures in (
       omega arith,
       omega (arith, c.wide-k.ensures, one.few),
-      put.auto.1.1.1.1.1.1.0 ∙ l.invariant.2,
+      put.auto.out ∙ l.invariant.2,
       rw c.wide-k.ensures (fills-more a.mints.now a.pack.now a.at.now f id leg_width l.i l.k put.result a.out.now l.out _ l.invariant.3 one),
       rw c.number.ensures (numbers_more a.mints.now a.pack.now a.at.now f id leg_width l.i l.k put.result a.out.now l.out _ a.leg.now l.leg l.invariant.4 l.invariant.3 one),
     )
@@ -59,4 +59,4 @@ pub returns : goal.returns
 returns c =
     let l = c.loop-i in
     let e : l.i ≡ c.args.n = omega arith in
-    (rw e at l.invariant.3, rw e at l.invariant.4)
+    record { fills = rw e at l.invariant.3; numbers = rw e at l.invariant.4 }

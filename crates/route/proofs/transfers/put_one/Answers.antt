@@ -40,29 +40,27 @@ returns-then-not-token_program c =
     let v = instruction_at a.pack.now a.x.at in
     let program = c.token_program in
     let e : is_token (program_of a.keys.now v) ≡ false =
-    rw (← c.requires.2) (sym program.ensures ∙ c.if-not-token_program.true) in (
-      c.reason.ensures ∙ sym (no-token a.keys.now v e),
-      rw c.reason.ensures
-          record { few = omega arith; counted = λ table h. rw (no-transfer a.keys.now v e); rows = λ table h. rw (no-transfer a.keys.now v e) },
-    )
-
--- where the call began, its keys and its instruction
-abbrev start : After-reason-2 → Start
-start c = @AT:Start@
+    rw (← c.requires.2) (sym program.ensures ∙ c.if-not-token_program.true) in
+    record {
+      value = c.reason.ensures ∙ sym (no-token a.keys.now v e);
+      puts =
+          rw c.reason.ensures
+          record { few = omega arith; counted = λ table h. rw (no-transfer a.keys.now v e); rows = λ table h. rw (no-transfer a.keys.now v e) };
+    }
 
 abbrev keys : After-reason-2 → List ℕ
-keys c = (start c).args.keys.now
+keys c = c.args.keys.now
 
 abbrev item : After-reason-2 → Instruction
-item c = instruction_at (start c).args.pack.now (start c).args.x.at
+item c = instruction_at c.args.pack.now c.args.x.at
 
 -- program, accounts and data are the instruction's
 read : {A : Type 0} (f : Id → List ℕ → List ℕ → A) (c : After-reason-2)
-    → f (start c).args.x.program c.before.before.before.before.before.before.before.before.before.before.before.accounts.result.now c.before.before.before.before.before.before.before.before.before.before.«data».result.now ≡ f (program_of (keys c) (item c)) (item c).accounts (item c).bytes
+    → f c.args.x.program c.accounts.result.now c.«data».result.now ≡ f (program_of (keys c) (item c)) (item c).accounts (item c).bytes
 read f c =
-    let a = c.before.before.before.before.before.before.before.before.before.before.before.accounts in
-    let d = c.before.before.before.before.before.before.before.before.before.before.«data» in
-    ap (λ (i : Id). f i a.result.now d.result.now) (start c).requires.2
+    let a = c.accounts in
+    let d = c.«data» in
+    ap (λ (i : Id). f i a.result.now d.result.now) c.requires.2
     ∙ ap (λ (l : List ℕ). f (program_of (keys c) (item c)) l d.result.now) a.ensures
     ∙ ap (f (program_of (keys c) (item c)) (item c).accounts) d.ensures
 
@@ -78,17 +76,18 @@ told c = c.transfer-moved.ensures.reason ∙ read (reason (key_of (keys c))) c
 pub returns : goal.returns
 unfolding transfer_rows
 returns c =
-    let a = (start (goal.at.returns c).After-reason-2).args in
+    let a = c.args in
     let moved = c.transfer-moved.result in
     let program = key_of (keys (goal.at.returns c).After-reason-2) (item (goal.at.returns c).After-reason-2).program in
-    let mint = mint_of (known_mint a.mints.now (source_by moved)) in (
-      c.reason-2.ensures ∙ told (goal.at.returns c).After-reason-2,
-      record {
+    let mint = mint_of (known_mint a.mints.now (source_by moved)) in
+    record {
+      value = c.reason-2.ensures ∙ told (goal.at.returns c).After-reason-2;
+      puts = record {
         few = rows-le c.reason-2.result;
         counted = λ table h. rw c.reason-2.ensures (row-counted (key_of (keys (goal.at.returns c).After-reason-2)) (mint_in table) a.x.number program mint moved ∙ rw (value (goal.at.returns c).After-reason-2));
         rows =
             λ table h.
             rw (c.put_row.ensures, c.mint.ensures, c.source.ensures, c.program.ensures)
             (row-placed (key_of (keys (goal.at.returns c).After-reason-2)) (mint_in table) a.x.number program mint moved (h (source_by moved) (rw (← c.source.ensures) (omega arith))) a.out.now a.x.row ∙ rw (value (goal.at.returns c).After-reason-2));
-      },
-    )
+      };
+    }

@@ -46,12 +46,12 @@ loop-i-preserved c =
     let id = c.of_number.result in
     let keys = c.section-keys.ensures in
     let offset = c.wide.ensures in
-    let one : Puts a.mints.now (section_of a.pack.now 0) a.pack.now f transfer_width (candidate a.at.now id l.i l.k) (transfer_count put.result) l.out put.new.1.1.1.1.0 =
-    rw (keys, offset) at put.ensures.1 in
-    let told : put.result ≡ reason_in (section_of a.pack.now 0) (item_at a.pack.now a.at.now l.i) = rw (keys, offset) at put.ensures.0 in (
+    let one : Puts a.mints.now (section_of a.pack.now 0) a.pack.now f transfer_width (candidate a.at.now id l.i l.k) (transfer_count put.result) l.out put.new.out =
+    rw (keys, offset) at put.ensures.puts in
+    let told : put.result ≡ reason_in (section_of a.pack.now 0) (item_at a.pack.now a.at.now l.i) = rw (keys, offset) at put.ensures.value in (
       omega arith,
       omega (arith, c.rows-k.ensures, one.few),
-      put.auto.1.1.1.1.0 ∙ l.invariant.2,
+      put.auto.out ∙ l.invariant.2,
       rw c.rows-k.ensures (fills-more a.mints.now a.pack.now a.at.now f id transfer_width l.i l.k (transfer_count put.result) a.out.now l.out _ l.invariant.3 one),
       rw told (array-more (λ i. reason_in (section_of a.pack.now 0) (item_at a.pack.now a.at.now i)) l.i a.reasons.now l.reasons l.invariant.4),
     )
@@ -63,4 +63,4 @@ pub returns : goal.returns
 returns c =
     let l = c.loop-i in
     let e : l.i ≡ c.args.n = omega arith in
-    (rw e at l.invariant.3, rw e at l.invariant.4)
+    record { fills = rw e at l.invariant.3; reasons_after = rw e at l.invariant.4 }
