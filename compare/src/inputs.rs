@@ -1,8 +1,7 @@
-//! The inputs of crates/routes_cases: names and a pack at the edges of what `routes` and `tree` read and print.
+//! The inputs of crates/routes_cases: names and a pack at the edges of what `routes` reads and prints. And what `tree` is run on.
 
 use crate::listing::listing;
 use crate::sample;
-use crate::tree::tree;
 use mbelaguy::ids::{AMM_V4, SPL_TOKEN};
 use mbelaguy::pack::{join, Group, Inner, Instruction, KeyRow, Pack};
 use mbelaguy::pack::{BALANCE_ROW, KEY_ROW, MAX_BYTES, TRAILER};
@@ -12,8 +11,7 @@ use mbelaguy::MAX_INVOCATIONS;
 pub fn files() -> Result<Vec<(String, Vec<u8>)>, String> {
     let inputs = inputs()?;
     let arguments: String = inputs.iter().map(|(name, _)| format!("{name}\n")).collect();
-    let print =
-        |(name, input): &(&str, Vec<u8>)| format!("{name}\n{}{}", listing(input), tree(input));
+    let print = |(name, input): &(&str, Vec<u8>)| format!("{name}\n{}", listing(input));
     let printed: String = inputs.iter().map(print).collect();
     let data = inputs.into_iter().map(|(name, input)| (format!("data/{name}"), input));
     let texts = [("args", arguments), ("stdout", printed)]
@@ -32,11 +30,7 @@ fn inputs() -> Result<Vec<(&'static str, Vec<u8>)>, String> {
         ("no_pack", unnamed(&[])),
         ("inner_cut", unnamed(&join(&inner_cut))),
         ("balance_of_no_key", unnamed(&join(&balance_of_no_key))),
-        ("no_instruction", unnamed(&pack(&Pack::default())?)),
         ("height_absent", unnamed(&pack(&calls([Some(2), None]))?)),
-        ("deepest", unnamed(&pack(&calls((2..=MAX_INVOCATIONS as u32).map(Some)))?)),
-        ("widest", unnamed(&pack(&calls([None; MAX_INVOCATIONS - 1]))?)),
-        ("drawn", drawn()?),
         ("reasons", unnamed(&pack(&reasons())?)),
         ("transfers_401", unnamed(&pack(&transfers(401))?)),
         ("longest", unnamed(&pack(&filled(MAX_BYTES))?)),
@@ -63,6 +57,16 @@ fn calls(heights: impl IntoIterator<Item = Option<u32>>) -> Pack {
         groups: vec![Group { outer: 0, instructions: heights.into_iter().map(inner).collect() }],
         ..Pack::default()
     }
+}
+
+/// As many invocations as a pack may have: each calls the next (`deepest`), or the first calls all (`widest`). compare/stack runs `tree` on them.
+pub fn most(name: &str) -> Result<Vec<u8>, String> {
+    let calls = match name {
+        "deepest" => calls((2..=MAX_INVOCATIONS as u32).map(Some)),
+        "widest" => calls([None; MAX_INVOCATIONS - 1]),
+        _ => return Err(format!("{name} is neither deepest nor widest")),
+    };
+    Ok(unnamed(&pack(&calls)?))
 }
 
 /// The calls that docs/TREE.md draws: 3 is a transfer, 5 a swap.

@@ -62,7 +62,7 @@ example = refl
 
 -- a refusal is printed as the listing prints it
 pub same-refusal : (input : List ℕ) → (route_of input).answer.number ≢ 0 → tree input ≡ listing input
-unfolding listing listed
+unfolding listing route_of listed
 same-refusal input h = tree-refused input h ∙ sym (rw (ne_eqb (route_of input).answer.number 0 h))
 
 -- the tree of the same three: each has the next one as its only child

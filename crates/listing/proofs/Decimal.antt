@@ -1,6 +1,6 @@
--- What `decimal` gives: digits alone, without a zero in front, that read back to the number; so nothing else could be meant. And the kit's digits are these.
+-- What `decimal` gives: digits alone, without a zero in front, that read back to the number; so nothing else could be meant. And std's digits are these.
 -- Assumes nothing.
-use mathlib.Core.Path.{◌≡◌, refl, ◌∙◌}
+use mathlib.Core.Path.{◌≡◌, refl, sym, ◌∙◌}
 use mathlib.Core.Bool.{Bool, true, false, cond}
 use mathlib.Core.List.{List, [], ◌∷◌, ◌++◌}
 use Prim.Native.Nat.{ℕ, zero, suc, ◌+◌, ◌*◌, ◌-◌, ◌/◌, ◌%◌, ◌^◌, ◌≤◌, ◌<◌}
@@ -9,7 +9,8 @@ use native.Mathlib.Omega.{arith}
 use lib.Dec.{ltb}
 use lib.ListN.{length, get_or, length-append}
 use borrow.Author.Tests.{lt-ltb, le-ltb, ltb-true, ltb-false}
-use Rattle.io.specs.Digits.{last_digits, IsDigitCount}
+use Rattle.std.specs.Fmt as std
+use Rattle.std.proofs.lemmas.Fmt.{AppendsLastDigit, decimal_from_appends, length-decimal-le_succ}
 use Rattle.listing.specs.Decimal.{decimal_in, decimal, value_from, Digits, none, more}
 
 -- a digit behind others
@@ -92,34 +93,14 @@ decimal-few k x h = few-in (suc x) k x h
 pub decimal-ten : (x : ℕ) → x < 4294967296 → length (decimal x) ≤ 10
 decimal-ten x h = decimal-few 9 x (omega arith)
 
--- a digit less holds a tenth
-fewest-tenth : (k x : ℕ) → IsDigitCount 10 1 x (suc (suc k)) → IsDigitCount 10 1 (x / 10) (suc k)
-fewest-tenth k x (a, b, c) =
-    let p : suc (suc k) - 1 ≡ suc k = omega arith in
-    let q : suc k - 1 ≡ k = omega arith in
-    let low : 10 ^ k * 10 ≤ x = rw (p, pow-suc 10 k) at (c (omega arith)) in
-    let high : x < 10 ^ suc k * 10 = rw (pow-suc 10 (suc k)) at b in
-    (omega arith, omega arith, λ l. rw q (omega arith))
-
-spelled : (most k x : ℕ) → x < most → IsDigitCount 10 1 x k → last_digits 10 k x ≡ decimal_in most x
+std-appends : AppendsLastDigit decimal_in
 unfolding decimal_in
-spelled zero k x h w = absurd (omega arith)
-spelled (suc most) zero x h (a, b, c) = absurd (omega arith)
-spelled (suc most) (suc zero) x h (a, b, c) =
-    let l : x < 10 = omega arith in
-    let d : x % 10 < 10 = omega arith in
-    rw (lt-ltb x 10 l, lt-ltb (x % 10) 10 d)
-spelled (suc most) (suc (suc k)) x h (a, b, c) =
-    let d : x % 10 < 10 = omega arith in
-    let p : suc (suc k) - 1 ≡ suc k = omega arith in
-    let low : 10 ^ k * 10 ≤ x = rw (p, pow-suc 10 k) at (c (omega arith)) in
-    let g : 10 ≤ x = omega (arith, one-le-pow k 10 (omega arith)) in
-    rw (le-ltb x 10 g, lt-ltb (x % 10) 10 d, spelled most (suc k) (x / 10) (omega arith) (fewest-tenth k x (a, b, c)))
+std-appends = record { one = λ k n l. let e : n % 10 ≡ n = omega arith in rw (lt-ltb n 10 l, e); more = λ k n g. rw (le-ltb n 10 g) }
 
--- the fewest digits that hold a number are its decimal
-pub fewest-decimal : (k x : ℕ) → IsDigitCount 10 1 x k → last_digits 10 k x ≡ decimal x
+-- std's digits are these
+pub std-decimal : (x : ℕ) → x < 18446744073709551616 → std.decimal x ≡ decimal x
 unfolding decimal
-fewest-decimal k x w = spelled (suc x) k x (omega arith) w
+std-decimal x h = sym (decimal_from_appends decimal_in std-appends (suc x) x h (omega (arith, length-decimal-le_succ x h)))
 
 -- 0, a number with a zero in it, and the greatest of 32 bits
 pub zero-text : decimal 0 ≡ 48 ∷ []

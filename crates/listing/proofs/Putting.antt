@@ -1,10 +1,12 @@
 -- One writer after another: texts stored one behind the other are stored as one.
 -- Assumes nothing.
-use mathlib.Core.Path.{refl, sym}
+use mathlib.Core.Path.{◌≡◌, refl, sym}
 use mathlib.Core.List.{List, [], ◌++◌}
 use Prim.Native.Nat.{ℕ, ◌+◌, ◌≤◌}
+use native.Mathlib.Nat.{zero-add}
 use native.Mathlib.Omega.{arith}
-use lib.ListN.{length-append}
+use lib.ListN.{length, take, length-append}
+use lib.Seq.{sets-eq, take-append_seam}
 use Rattle.wire.proofs.Sets.{sets-next}
 use Rattle.listing.specs.Listing.{spaced}
 use Rattle.listing.specs.Puts.{PutsText}
@@ -31,3 +33,9 @@ puts-byte {x = x} h p = record { left = p.left; behind = p.behind; within = omeg
 -- a wider bound
 pub puts-wider : {m at next : ℕ} {out text end : List ℕ} (k : ℕ) → m ≤ k → PutsText m out at text end next → PutsText k out at text end next
 puts-wider k h p = record { left = p.left; behind = p.behind; within = omega (arith, p.within) }
+
+-- a text that stands at the start of a list with room for it
+pub puts-first : {m next : ℕ} {out text end : List ℕ} → PutsText m out 0 text end next → m ≤ length out → take next end ≡ text
+puts-first {m} {next} {out} {text} {end} p h =
+    let fits : length text ≤ length out = omega (arith, p.behind, p.within) in
+    rw (p.left, p.behind, zero-add, sets-eq text out 0 (omega arith)) (take-append_seam text _)

@@ -45,14 +45,10 @@ position row = decimal (le 4 row 0) ++ optional row 4 ++ optional row 9
 unfoldable pub line : List ℕ → List ℕ
 line row = position row ++ spaced (le 4 row 14) ++ spaced (get_or row 18 0) ++ spaced (le 4 row 23) ++ spaced (get_or row 27 0) ++ newline
 
--- row i of table 1
-abbrev pub row_in : List ℕ → ℕ → List ℕ
-row_in rows i = take invocation_width (drop (i * invocation_width) rows)
-
 -- the lines of n rows from row i on
 unfoldable pub lines_from : List ℕ → ℕ → ℕ → List ℕ
 lines_from rows zero i = []
-lines_from rows (suc n) i = line (row_in rows i) ++ lines_from rows n (suc i)
+lines_from rows (suc n) i = line (take invocation_width (drop (i * invocation_width) rows)) ++ lines_from rows n (suc i)
 
 -- what is printed of an answer and the rows of table 1
 unfoldable pub listed : Answer → List ℕ → List ℕ
@@ -69,10 +65,14 @@ lent_room =
       natives = 500 * action_width;
     }
 
--- the call on an input: 88 bytes of names, and the rest is the pack
+-- the listing of an input: 88 bytes of names, and the rest is the pack
+unfoldable pub listing : List ℕ → List ℕ
+listing input = let r = route (take 88 input) (drop 88 input) lent_room in listed r.answer r.invocations
+
+-- the call of that listing, for the tree
 unfoldable pub route_of : List ℕ → Routed
 route_of input = route (take 88 input) (drop 88 input) lent_room
 
--- the listing of an input
-unfoldable pub listing : List ℕ → List ℕ
-listing input = listed (route_of input).answer (route_of input).invocations
+-- row i of table 1
+abbrev pub row_in : List ℕ → ℕ → List ℕ
+row_in rows i = take invocation_width (drop (i * invocation_width) rows)

@@ -1,12 +1,13 @@
 // The printed listing of names and a pack, as bytes in a lent slice, and what the programs do with it. Their printed tree is in the module `tree`.
 //
-// Proved: which bytes they are, how many, and that 65,536 hold every listing. `print` reads the input and writes them out; that is tested, since no contract
-// can speak of what is read or written.
+// Proved: which bytes they are, how many, that 65,536 hold every listing, and that `print` writes them for what it reads, where its reader and its writer tell
+// what they give and hold. What a file or a stream gives and takes no contract tells; that is tested.
 #![tactic(auto)]
 
 pub mod tree;
 
-ghost use Rattle.std.specs.Prelude.{◌≡◌, ◌+◌, ◌*◌, ◌≤◌, length, take, drop};
+ghost use Rattle.std.specs.Prelude.{◌≡◌, ◌+◌, ◌*◌, ◌≤◌, length, take, drop, IfOk, IfSome, OnOk};
+ghost use Rattle.std.specs.Io.KnownBytes.{Appends};
 ghost use Rattle.route.specs.Widths.{invocation_width};
 ghost use Rattle.listing.specs.Decimal.{decimal};
 ghost use Rattle.listing.specs.Listing.{lines_from, route_of, listing};
@@ -15,8 +16,11 @@ ghost use Rattle.listing.specs.Listing.{head, optional, position, line};
 ghost use Rattle.listing.specs.Listing.{listed};
 ghost use Rattle.listing.specs.Puts.{PutsText};
 
-use libc::STDOUT_FILENO;
+use itoa::Buffer;
 use route::{Answer, width};
+use std::alloc::Global;
+use std::io;
+use std::io::{Read, Write};
 
 // Puts a word at a place, and answers the place behind it, as all writers here do. They ask that the place is not far, so that no sum is too large.
 fn word(out: &mut [u8], at: usize, text: &[u8]) -> usize
@@ -32,9 +36,8 @@ fn number(out: &mut [u8], at: usize, n: u32) -> usize
     requires { at ≤ 65536 }
     ensures { PutsText 10 out.old at (decimal n) out.new result }
 {
-    let mut digits = [0u8; 20];
-    let k = io::decimal(n as u64, &mut digits);
-    word(out, at, &digits[..k])
+    let mut digits = Buffer::new();
+    word(out, at, digits.format(n).as_bytes())
 }
 
 // A number with a space in front.
@@ -193,11 +196,29 @@ fn list(input: &[u8], out: &mut [u8]) -> usize
     listed(out, a, &invocations)
 }
 
-// Prints the listing of what a file holds. It reads one byte more than the names and the longest pack have, so that a longer input is told from the longest.
-pub fn print(fd: i32) {
-    let mut input = [0u8; 61529];
-    let n = io::read_full(fd, &mut input);
-    let mut text = io::large_buffer();
-    let k = list(&input[..n], &mut text);
-    io::write_all(STDOUT_FILENO, &text[..k]);
+// What an input holds, and no more of it than one byte past the names and the longest pack, so that a longer input is told from the longest.
+fn read<R: Read + Drop>(alloc: Global, input: R) -> io::Result<Vec<u8>>
+    ensures { IfOk result (λ bytes. IfSome (R.remaining input) (λ all. bytes.items ≡ take 61529 all)) }
+{
+    let mut bytes = Vec::new(alloc);
+    input.take(61529).read_to_end(&mut bytes)?;
+    Ok(bytes)
+}
+
+// Writes the listing of the names and the pack that the input is.
+fn write<W: Write>(input: &[u8], output: &mut W) -> io::Result<()>
+    ensures { OnOk result (Appends (W.contents output.old) (W.contents output.new) (listing input.now)) }
+{
+    let mut text = [0u8; 65536];
+    let k = list(input, &mut text);
+    output.write_all(&text[..k])
+}
+
+// Prints the listing of what an input holds.
+pub fn print<R: Read + Drop, W: Write>(alloc: Global, input: R, output: &mut W) -> io::Result<()>
+    ensures { OnOk result (IfSome (R.remaining input)
+        (λ all. Appends (W.contents output.old) (W.contents output.new) (listing (take 61529 all)))) }
+{
+    let bytes = read(alloc, input)?;
+    write(&bytes, output)
 }

@@ -2,7 +2,8 @@
 //
 // Proved: its lines are those that the rows of table 1 give, so the finder and the fast path agree on every pack that is not refused. What an invocation has
 // itself comes from table 1; where the blocks end, what lies in them and who is whose child is found anew.
-ghost use Rattle.std.specs.Prelude.{◌≡◌, ◌+◌, ◌*◌, ◌≤◌, length, take};
+ghost use Rattle.std.specs.Prelude.{◌≡◌, ◌+◌, ◌*◌, ◌≤◌, length, take, IfSome, OnOk};
+ghost use Rattle.std.specs.Io.KnownBytes.{Appends};
 ghost use Rattle.std.proofs.lemmas.List.Edits.{sets};
 ghost use Rattle.wire.specs.Tab.{tab};
 ghost use Rattle.subtrees.specs.Subtrees.{positions};
@@ -12,9 +13,11 @@ ghost use Rattle.listing.specs.Listing.{row_in};
 ghost use Rattle.listing.specs.Tree.{spaced_all, tree_head, own_in, branch_of, first_lines, tree};
 ghost use Rattle.listing.specs.Puts.{PutsText};
 
-use crate::{field, named, names_end, number, refused, routed, word};
-use libc::STDOUT_FILENO;
+use crate::{field, named, names_end, number, read, refused, routed, word};
 use route::width;
+use std::alloc::Global;
+use std::io;
+use std::io::{Read, Write};
 
 // What the invocation of a row has itself: 1 a transfer, 2 a swap.
 fn own_in(row: &[u8]) -> u8
@@ -135,11 +138,20 @@ fn draw(input: &[u8], out: &mut [u8]) -> usize
     branches(out, next, n, &outer, &inner, &height, &own)
 }
 
-// Prints the tree of what a file holds, as `print` of the listing does.
-pub fn print(fd: i32) {
-    let mut input = [0u8; 61529];
-    let n = io::read_full(fd, &mut input);
-    let mut text = io::large_buffer();
-    let k = draw(&input[..n], &mut text);
-    io::write_all(STDOUT_FILENO, &text[..k]);
+// Writes the tree of the names and the pack that the input is.
+fn write<W: Write>(input: &[u8], output: &mut W) -> io::Result<()>
+    ensures { OnOk result (Appends (W.contents output.old) (W.contents output.new) (tree input.now)) }
+{
+    let mut text = [0u8; 65536];
+    let k = draw(input, &mut text);
+    output.write_all(&text[..k])
+}
+
+// Prints the tree of what an input holds, as `print` of the listing does.
+pub fn print<R: Read + Drop, W: Write>(alloc: Global, input: R, output: &mut W) -> io::Result<()>
+    ensures { OnOk result (IfSome (R.remaining input)
+        (λ all. Appends (W.contents output.old) (W.contents output.new) (tree (take 61529 all)))) }
+{
+    let bytes = read(alloc, input)?;
+    write(&bytes, output)
 }

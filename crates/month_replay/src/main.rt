@@ -8,34 +8,35 @@
 mod held;
 
 use held::Found;
-use libc::{STDIN_FILENO, STDOUT_FILENO};
+use std::alloc::Global;
+use std::io;
+use std::io::Read;
 
-fn word(text: &[u8]) {
-    io::write_all(STDOUT_FILENO, text);
-}
-
-fn number(n: u32) {
-    io::print_decimal(STDOUT_FILENO, n as u64);
-}
+// The longest record that is read.
+const LONGEST: u32 = 196608;
 
 // Says in what record k differs, if it does and fewer than ten did so before.
-fn tell(k: u32, before: u32, found: Found) {
+fn tell(rt: &impl Print, k: u32, before: u32, found: Found) -> io::Result<()> {
     if 10 <= before {
-        return;
+        return Ok(());
     }
     match found {
-        Found::Same => {}
-        Found::Numbers => line(k, b": other numbers"),
-        Found::Report => line(k, b": another report"),
-        Found::Unfit => line(k, b": cut off, or too long for this program"),
+        Found::Same => Ok(()),
+        Found::Numbers => line(rt, k, "other numbers"),
+        Found::Report => line(rt, k, "another report"),
+        Found::Unfit => line(rt, k, "cut off, or too long for this program"),
     }
 }
 
-fn line(k: u32, text: &[u8]) {
-    word(b"record ");
-    number(k);
-    word(text);
-    word(b"\n");
+fn line(rt: &impl Print, k: u32, text: &str) -> io::Result<()> {
+    println!(rt; "record {k}: {text}")
+}
+
+// The next n bytes, or those that are left.
+fn read(alloc: Global, input: &mut impl Read, n: u32) -> io::Result<Vec<u8>> {
+    let mut bytes = Vec::new(alloc);
+    input.by_ref().take(u64::from(n)).read_to_end(&mut bytes)?;
+    Ok(bytes)
 }
 
 // The length of the next record.
@@ -45,46 +46,39 @@ enum Length {
     Of(u32),
 }
 
-fn next_length() -> Length {
-    let mut length = [0u8; 4];
-    if io::read_full(STDIN_FILENO, &mut length) == 0 {
-        return Length::End;
+fn next_length(alloc: Global, input: &mut impl Read) -> io::Result<Length> {
+    let length = read(alloc, input, 4)?;
+    if length.is_empty() {
+        return Ok(Length::End);
     }
-    Length::Of(wire::u32_at(&length, 0))
+    Ok(Length::Of(wire::u32_at(&length, 0)))
 }
 
-// The next record: n bytes, of which none is read where the buffer cannot hold them.
-fn read(n: usize, buffer: &mut [u8], report: &mut [u8]) -> Found {
-    if buffer.len() < n {
-        return Found::Unfit;
+// The next record: n bytes, of which none is read where they are too many. There is room for the longest report.
+fn next(alloc: Global, input: &mut impl Read, n: u32) -> io::Result<Found> {
+    if LONGEST < n {
+        return Ok(Found::Unfit);
     }
-    if io::read_full(STDIN_FILENO, &mut buffer[0..n]) < n {
-        return Found::Unfit;
+    let bytes = read(alloc, input, n)?;
+    if bytes.len() < n as usize {
+        return Ok(Found::Unfit);
     }
-    held::record(&buffer[0..n], report)
-}
-
-// The same, with room for the longest record and the longest report.
-fn next(n: usize) -> Found {
-    let mut buffer = [0u8; 196608];
     let mut report = [0u8; 32768];
-    read(n, &mut buffer, &mut report)
+    Ok(held::record(&bytes, &mut report))
 }
 
-fn main() {
+fn main(rt: HostRuntime) -> io::Result<()> {
+    let mut input = rt.stdin();
     let mut answers = 0u32;
     let mut different = 0u32;
     while answers < 4294967295 {
-        let Length::Of(n) = next_length() else {
+        let Length::Of(n) = next_length(rt.alloc(), &mut input)? else {
             break;
         };
-        let found = next(n as usize);
-        tell(answers, different, found);
+        let found = next(rt.alloc(), &mut input, n)?;
+        tell(&rt, answers, different, found)?;
         different += held::count(found);
         answers += 1;
     }
-    number(answers);
-    word(b" answers, ");
-    number(different);
-    word(b" different\n");
+    println!(rt; "{answers} answers, {different} different")
 }

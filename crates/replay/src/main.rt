@@ -8,38 +8,39 @@
 mod held;
 
 use held::Found;
-use libc::{STDIN_FILENO, STDOUT_FILENO};
+use std::alloc::Global;
+use std::io;
+use std::io::Read;
 
-fn word(text: &[u8]) {
-    io::write_all(STDOUT_FILENO, text);
-}
-
-fn number(n: u32) {
-    io::print_decimal(STDOUT_FILENO, n as u64);
-}
+// The longest record that is read.
+const LONGEST: u32 = 393216;
 
 // Says in what record k differs, if it does and fewer than ten did so before.
-fn tell(k: u32, before: u32, found: Found) {
+fn tell(rt: &impl Print, k: u32, before: u32, found: Found) -> io::Result<()> {
     if 10 <= before {
-        return;
+        return Ok(());
     }
     match found {
-        Found::Same => {}
-        Found::Numbers => line(k, b": other numbers"),
-        Found::Mints => line(k, b": another table 0"),
-        Found::Invocations => line(k, b": another table 1"),
-        Found::Transfers => line(k, b": another table 2"),
-        Found::Legs => line(k, b": another table 3"),
-        Found::Natives => line(k, b": another table 4"),
-        Found::Unfit => line(k, b": cut off, or too long for this program"),
+        Found::Same => Ok(()),
+        Found::Numbers => line(rt, k, "other numbers"),
+        Found::Mints => line(rt, k, "another table 0"),
+        Found::Invocations => line(rt, k, "another table 1"),
+        Found::Transfers => line(rt, k, "another table 2"),
+        Found::Legs => line(rt, k, "another table 3"),
+        Found::Natives => line(rt, k, "another table 4"),
+        Found::Unfit => line(rt, k, "cut off, or too long for this program"),
     }
 }
 
-fn line(k: u32, text: &[u8]) {
-    word(b"record ");
-    number(k);
-    word(text);
-    word(b"\n");
+fn line(rt: &impl Print, k: u32, text: &str) -> io::Result<()> {
+    println!(rt; "record {k}: {text}")
+}
+
+// The next n bytes, or those that are left.
+fn read(alloc: Global, input: &mut impl Read, n: u32) -> io::Result<Vec<u8>> {
+    let mut bytes = Vec::new(alloc);
+    input.by_ref().take(u64::from(n)).read_to_end(&mut bytes)?;
+    Ok(bytes)
 }
 
 // The length of the next record.
@@ -49,92 +50,89 @@ enum Length {
     Of(u32),
 }
 
-fn next_length() -> Length {
-    let mut length = [0u8; 4];
-    if io::read_full(STDIN_FILENO, &mut length) == 0 {
-        return Length::End;
+fn next_length(alloc: Global, input: &mut impl Read) -> io::Result<Length> {
+    let length = read(alloc, input, 4)?;
+    if length.is_empty() {
+        return Ok(Length::End);
     }
-    Length::Of(wire::u32_at(&length, 0))
+    Ok(Length::Of(wire::u32_at(&length, 0)))
 }
 
-// Reads a byte n times, for a record that the buffer cannot hold.
-fn skip(n: usize) {
-    for i in 0..n {
-        let mut byte = [0u8; 1];
-        if io::read_full(STDIN_FILENO, &mut byte) == 0 {
-            break;
-        }
-    }
+// Reads n bytes, for a record that is too long.
+fn skip(input: &mut impl Read, n: u32) -> io::Result<()> {
+    io::copy(&mut input.by_ref().take(u64::from(n)), &mut io::sink())?;
+    Ok(())
 }
 
 // The next record: n bytes.
 fn next(
-    n: usize,
-    buffer: &mut [u8],
+    alloc: Global,
+    input: &mut impl Read,
+    n: u32,
     mints: &mut [u8],
     invocations: &mut [u8],
     transfers: &mut [u8],
     legs: &mut [u8],
     natives: &mut [u8],
-) -> Found {
-    if buffer.len() < n {
-        skip(n);
-        return Found::Unfit;
+) -> io::Result<Found> {
+    if LONGEST < n {
+        skip(input, n)?;
+        return Ok(Found::Unfit);
     }
-    if io::read_full(STDIN_FILENO, &mut buffer[0..n]) < n {
-        return Found::Unfit;
+    let bytes = read(alloc, input, n)?;
+    if bytes.len() < n as usize {
+        return Ok(Found::Unfit);
     }
-    held::record(&buffer[0..n], mints, invocations, transfers, legs, natives)
+    Ok(held::record(&bytes, mints, invocations, transfers, legs, natives))
 }
 
 // All records.
-fn run(
-    buffer: &mut [u8],
+fn run<R: Print + AllocGlobal>(
+    rt: &R,
+    input: &mut impl Read,
     mints: &mut [u8],
     invocations: &mut [u8],
     transfers: &mut [u8],
     legs: &mut [u8],
     natives: &mut [u8],
-) {
+) -> io::Result<()> {
     let mut answers = 0u32;
     let mut different = 0u32;
     while answers < 4294967295 {
-        let Length::Of(n) = next_length() else {
+        let Length::Of(n) = next_length(rt.alloc(), input)? else {
             break;
         };
         let found = next(
-            n as usize,
-            buffer,
+            rt.alloc(),
+            input,
+            n,
             mints,
             invocations,
             transfers,
             legs,
             natives,
-        );
-        tell(answers, different, found);
+        )?;
+        tell(rt, answers, different, found)?;
         different += held::count(found);
         answers += 1;
     }
-    number(answers);
-    word(b" answers, ");
-    number(different);
-    word(b" different\n");
+    println!(rt; "{answers} answers, {different} different")
 }
 
-// Room for the longest record, and for the most rows that a pack can need with some bytes to spare.
-fn main() {
-    let mut buffer = [0u8; 393216];
+// Room for the most rows that a pack can need with some bytes to spare.
+fn main(rt: HostRuntime) -> io::Result<()> {
     let mut mints = [0u8; 17408];
     let mut invocations = [0u8; 29696];
     let mut transfers = [0u8; 154624];
     let mut legs = [0u8; 257024];
     let mut natives = [0u8; 112640];
     run(
-        &mut buffer,
+        &rt,
+        &mut rt.stdin(),
         &mut mints,
         &mut invocations,
         &mut transfers,
         &mut legs,
         &mut natives,
-    );
+    )
 }

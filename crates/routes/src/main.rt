@@ -1,8 +1,8 @@
 // Prints the listing of the names and the pack on standard input.
 #![tactic(auto)]
 
-use libc::STDIN_FILENO;
+use std::io;
 
-fn main() {
-    listing::print(STDIN_FILENO);
+fn main(rt: HostRuntime) -> io::Result<()> {
+    listing::print(rt.alloc(), rt.stdin(), &mut rt.stdout())
 }

@@ -1,35 +1,19 @@
-// Prints the name, the listing and the tree of each file that its arguments name: inputs at the edges of what `routes` and `tree` read and print.
+// Prints the name and the listing of each file that its arguments name: inputs at the edges of what `routes` reads and prints.
 #![tactic(auto)]
 
-use libc::STDOUT_FILENO;
+use std::fs::File;
+use std::rt::Files;
+use std::{env, io};
 
-// The file is opened twice, so that the listing and the tree each read it from its start.
-fn case(i: usize) {
-    let mut path = io::buffer();
-    let n = os::arg(i, &mut path);
-    let first = os::open_read(&path[..n]);
-    if first < 0 {
-        os::fail(&path[..n]);
-        return;
-    }
-    let second = os::open_read(&path[..n]);
-    if second < 0 {
-        os::fail(&path[..n]);
-        return;
-    }
-    io::write_all(STDOUT_FILENO, &path[..n]);
-    io::write_all(STDOUT_FILENO, b"\n");
-    listing::print(first);
-    listing::tree::print(second);
-    libc::close(first);
-    libc::close(second);
+fn case<R: Files + Print + AllocGlobal>(rt: &R, path: &str) -> io::Result<()> {
+    let file = File::open(rt, path)?;
+    println!(rt; "{path}")?;
+    listing::print(rt.alloc(), file, &mut io::writer(rt))
 }
 
-fn main() {
-    let n = os::arg_count();
-    let mut i = 1;
-    while i < n {
-        case(i);
-        i += 1;
+fn main(rt: HostRuntime) -> io::Result<()> {
+    for path in env::args(&rt)?.skip(1) {
+        case(&rt, path.as_str())?;
     }
+    Ok(())
 }
