@@ -1,8 +1,8 @@
 #!/usr/bin/env python3
-"""Says which crates, edits and commands take the test's time: ./test | tee LOG; python3 compare/times.py LOG
+"""Says which commands take the test's time, and how many edits each crate has: ./test | tee LOG; python3 compare/times.py LOG
 
-Prints two tables: by crate, the seconds that its proof, its must-fail edits and its edits of edits/ took as they were reported, two checks side by side on two
-cores; and by command of ./test, its wall and processor time.
+Prints two tables: by crate, whether it was proved in the run or before, its must-fail edits and its edits of edits/, as they were reported; and by command of
+./test, its wall and processor time. `rt` says no seconds of a crate or an edit.
 """
 
 import re
@@ -11,26 +11,24 @@ from collections import defaultdict
 from pathlib import Path
 
 LINES = {
-    "proved": r"^rt: (\w+) proved \((\d+) s\)",
-    "must-fail": r"^rt: must-fail (\w+)/\w+: refused, .*?(\d+) s\)$",
-    "unedited": r"^edits: (\w+) passes unedited \((\d+) s\)",
-    "edits": r"^edits: (\w+)/\w+ refused at .* \((\d+) s\)$",
+    "proved in the run": r"^rt: (\w+) proved$",
+    "proved before": r"^rt: (\w+) is kept: ",
+    "must-fail edits": r"^rt: must-fail (\w+)/\S+: refused, ",
+    "edits of edits/": r"^edits: (\w+)/\S+ refused at ",
 }
 
 
 def main():
     said = Path(sys.argv[1]).read_text(encoding="utf-8")
-    seconds, numbers, crates = defaultdict(int), defaultdict(int), {}
+    numbers, crates = defaultdict(int), {}
     for kind, line in LINES.items():
-        for crate, took in re.findall(line, said, re.M):
+        for crate in re.findall(line, said, re.M):
             crates.setdefault(crate)
             for row in (crate, "all"):
-                seconds[row, kind] += int(took)
                 numbers[row, kind] += 1
-    print("| crate | proof | must-fail edits | checked again for edits/ | edits of edits/ |\n|---|---|---|---|---|")
+    print(f"| crate | {' | '.join(LINES)} |\n|{'---|' * (len(LINES) + 1)}")
     for row in [*crates, "all"]:
-        cells = [f"{numbers[row, kind]} in {seconds[row, kind]} s" if kind in ("must-fail", "edits") else f"{seconds[row, kind]} s" for kind in LINES]
-        print(f"| {row} |", " | ".join(cell if numbers[row, kind] else "" for cell, kind in zip(cells, LINES)), "|")
+        print(f"| {row} |", " | ".join(str(numbers[row, kind] or "") for kind in LINES), "|")
     print("\n| command | wall | processors |\n|---|---|---|")
     for command, wall, spent in re.findall(r"^test: (.*) took (\d+) s, (\d+) s of processors$", said, re.M):
         print(f"| `{command}` | {wall} s | {spent} s |")

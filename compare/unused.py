@@ -2,7 +2,7 @@
 """Lists the definitions and lemmas of crates/ that nothing names: python3 compare/unused.py
 
 A name is in use where a file of crates/ that has it, its own or by a `use` line, names it outside its own declaration, or where a document names it in
-backquotes. In the proof of a function the statements that the prover asks for (`tie.`, `statement`) are in use. Exits 1 where it lists anything.
+backquotes. In the proof of a function the statements that the prover asks for (`goal.`) are in use. Exits 1 where it lists anything.
 """
 
 import re
@@ -13,8 +13,10 @@ from pathlib import Path
 TOP = Path(__file__).resolve().parent.parent
 WORD = re.compile(r"[^\s(){}\[\],;.:]+")
 KIND = re.compile(r" *(?:(?:pub|unfoldable|abbrev|opaque|data|record) )*")
-USE = re.compile(r"(?:ghost |pub )*use Rattle·(\w+?)(?:·(?:specs|proofs))?\.(specs|proofs)\.(\S+?)\.\{(.*)\};?$")
-ALIAS = re.compile(r"(?:ghost |pub )*use Rattle·(\w+?)(?:·(?:specs|proofs))?\.(specs|proofs)\.(\S+) as (\S+?);?$")
+USE = re.compile(r"(?:ghost |pub )*use Rattle\.(\w+)\.(specs|proofs)\.(\S+?)\.\{(.*)\};?$")
+ALIAS = re.compile(r"(?:ghost |pub )*use Rattle\.(\w+)\.(specs|proofs)\.(\S+) as (\S+?);?$")
+# The files of a function's proof: what they declare of `goal` is asked by the prover.
+PROOFS = ("Answers.antt", "Invariants.antt", "Proof.antt")
 
 
 def words(line):
@@ -76,7 +78,7 @@ def main():
             for word in set(body):
                 counts[word] += word != name
         for name, body in items:
-            asked = path.name == "Proof.antt" and ("tie" in body or "statement" in body)
+            asked = path.name in PROOFS and "goal" in body
             if counts[name] or asked:
                 here.add(name)
             if name:

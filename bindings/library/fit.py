@@ -1,15 +1,14 @@
-"""Fits the module of a proved library, which is for x86-64 Linux, to another target.
+"""Fits the module of a proved library, which the kit made for one target, its base, to another target.
 
 The module's functions stay as they are, word for word. What changes is the lines that name the machine, and how the exported functions are called: each gets
 a skin that is called as the target's C has it and calls the proved one. How that is, the compiler says itself: it reads the C header and writes a declaration
-of each function, once for x86-64, which has to be what the module has, and once for the target.
+of each function, once for the base, which has to be what the module has, and once for the target.
 """
 
 import re
 from collections import namedtuple
 
-TYPE = r"void|ptr|float|double|i\d+|\{.*\}|\[.*\]|%[\w.]+"
-FUNCTION = re.compile(rf"^(define|declare) ((?:\w+ )*)({TYPE}) @(\w+)\((.*)\)([^()\n]*)$", re.M)
+FUNCTION = re.compile(r"^(define|declare) ([^@\n]*) @(\w+)(\(.*)$", re.M)
 STRUCTS = re.compile(r"^%struct\..* = type .*\n", re.M)
 MACHINE = re.compile(r'^target (?:datalayout|triple) = ".*"\n', re.M)
 PROCESSOR = re.compile(r' "(?:target-cpu|tune-cpu|target-features)"="[^"]*"')
@@ -17,23 +16,36 @@ PROCESSOR = re.compile(r' "(?:target-cpu|tune-cpu|target-features)"="[^"]*"')
 # Where a skin keeps an answer that the two sides have in different places. No target's C has more bytes of an answer in registers.
 ROOM = "alloca [64 x i8], align 16"
 
-# How a function is called: what is said of its answer, the answer's type, the parameters with what is said of them, what is said of the whole, and the struct,
-# if any, that is left at the address that comes first.
-Function = namedtuple("Function", "words answer parameters rest struct")
+# How a function is called: what is said of its answer, the answer's type, the parameters with what is said of them, and the struct, if any, that is left at the
+# address that comes first.
+Function = namedtuple("Function", "words answer parameters struct")
 
 
 class Unfit(Exception):
     pass
 
 
+def parts(text, mark):
+    """The pieces of a text between the marks that stand in no brackets."""
+    pieces, depth = [""], 0
+    for sign in text:
+        depth += (sign in "([{") - (sign in ")]}")
+        if sign == mark and not depth:
+            pieces.append("")
+        else:
+            pieces[-1] += sign
+    return [piece.strip() for piece in pieces if piece.strip()]
+
+
 def functions(kind, text):
     """The functions that a module defines for others (`define`), or that it declares (`declare`), by name."""
     found = {}
-    for which, words, answer, name, inside, rest in FUNCTION.findall(text):
-        if which == kind and not {"internal", "private"} & set(words.split()):
-            parameters = [re.sub(r" %\w+$", "", part) for part in re.split(r", (?![^(\[{]*[)\]}])", inside) if part]
+    for which, head, name, tail in FUNCTION.findall(text):
+        *words, answer = parts(head, " ")
+        if which == kind and not {"internal", "private"} & set(words):
+            parameters = [re.sub(r" %\w+$", "", part) for part in parts(parts(tail, " ")[0][1:-1], ",")]
             struct = re.search(r"sret\((.*?)\)", parameters[0]) if parameters else None
-            found[name] = Function(words, answer, parameters, rest, struct and struct[1])
+            found[name] = Function("".join(f"{word} " for word in words), answer, parameters, struct and struct[1])
     return found
 
 
@@ -42,11 +54,11 @@ def exported(module):
 
 
 def types(parameters):
-    return [parameter.split(" ")[0] for parameter in parameters]
+    return [parts(parameter, " ")[0] for parameter in parameters]
 
 
 def check(module, header, here):
-    """Whether the header says what the module has. `here` is what the compiler makes of the header for x86-64."""
+    """Whether the header says what the module has. `here` is what the compiler makes of the header for the module's target."""
     # A pointer beside length 0 may be null.
     if re.search(r"\b(nonnull|dereferenceable)", module):
         raise Unfit("the module takes pointers for addresses of something; null beside length 0 has to be taken")
@@ -57,8 +69,8 @@ def check(module, header, here):
             raise Unfit(f"a struct of the header has a field with {other[0]}; only numbers of fixed widths are alike everywhere")
     declared = functions("declare", here)
     for name, proved in functions("define", module).items():
-        # An answer in memory comes back as its address, which C does not say.
-        answer = "ptr" if declared[name].struct else declared[name].answer
+        # On x86-64 an answer in memory comes back as its address, which C does not say.
+        answer = "ptr" if declared[name].struct and not proved.struct else declared[name].answer
         said, had = (answer, types(declared[name].parameters)), (proved.answer, types(proved.parameters))
         if said != had:
             raise Unfit(f"{name} differs: {said} by the header, {had} in the module")
@@ -72,7 +84,9 @@ def skin(name, proved, in_memory, target):
     theirs = types(proved.parameters)[1 if in_memory else 0 :]
     if len(ours) != len(theirs):
         raise Unfit(f"{name} takes {len(theirs)} values as proved and {len(ours)} on the target: it can take pointers and numbers, no structs")
-    passed = ["ptr " + (taken[0] if target.struct else "%room")] if in_memory else []
+    # Where the address of the answer is passed may hang on that it is said to be one.
+    place = f"ptr sret({proved.struct}) " if proved.struct else "ptr "
+    passed = [place + (taken[0] if target.struct else "%room")] if in_memory else []
     for (type_, value), wide in zip(ours, theirs):
         # A size_t of 32 bits. No other number differs.
         if (type_, wide) == ("i32", "i64"):
@@ -82,7 +96,7 @@ def skin(name, proved, in_memory, target):
             raise Unfit(f"{name} takes {wide} as proved and {type_} on the target")
         passed.append(f"{wide} {value}")
     call = f'call {proved.answer} @"{name} as proved"({", ".join(passed)})'
-    if proved.answer == "void" or in_memory and target.struct:
+    if target.struct if in_memory else proved.answer == "void":
         lines += [call, "ret void"]
     else:
         lines.insert(0, f"%room = {ROOM}")
@@ -92,11 +106,11 @@ def skin(name, proved, in_memory, target):
         lines += [f"store {answer} %answer, ptr {taken[0]}", "ret void"] if target.struct else [f"ret {answer} %answer"]
     parameters = ", ".join(f"{parameter} {value}" for parameter, value in zip(target.parameters, taken))
     body = "\n".join(f"  {line}" for line in lines)
-    return f"define {target.words}{target.answer} @{name}({parameters}){proved.rest}\n{body}\n}}\n"
+    return f"define {target.words}{target.answer} @{name}({parameters}) nounwind {{\n{body}\n}}\n"
 
 
 def fit(module, here, there):
-    """The module for the target. `here` and `there` are what the compiler makes of the header for x86-64 and for the target."""
+    """The module for the target. `here` and `there` are what the compiler makes of the header for the base and for the target."""
     declared, wanted = functions("declare", here), functions("declare", there)
     skins = []
     for name, proved in functions("define", module).items():

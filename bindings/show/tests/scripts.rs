@@ -37,9 +37,9 @@ fn folder() -> PathBuf {
 
 #[test]
 fn a_first_call_says_where_it_is() {
-    let proved = "echo 'rt: wire proved (1 s)'; echo 'library wire: modules'; \
-                  echo 'rt: ids proved (unchanged since it was last proved)'";
-    let rt = [("rt", &format!("{proved}; echo 'rt: pack proved (2 s)'")[..])];
+    let begun = "echo 'rt: chose --jobs 2 for wire'; echo 'library wire: modules'; \
+                 echo 'rt: chose --jobs 1 for ids'; echo 'rt: chose --jobs 4 for pack'";
+    let rt = [("rt", begun)];
     let (status, printed, said) = run(".ci/prove", &["pack"], &rt);
     assert_eq!((status, &printed[..]), (Some(0), ""));
     let expected = [
@@ -52,10 +52,11 @@ fn a_first_call_says_where_it_is() {
     for (line, expected) in said.lines().zip(expected) {
         assert!(line.starts_with(expected) && line.contains(" s elsewhere"), "{line}");
     }
-    let rt = [("rt", &format!("{proved}; echo 'rt: pack NOT PROVED'; exit 1")[..])];
+    let rt = [("rt", &format!("{begun}; echo 'fn pack::judge: not proved'; exit 1")[..])];
     let (status, _, said) = run(".ci/prove", &["pack"], &rt);
     assert_eq!(status, Some(1));
-    assert!(said.contains("\nrt: pack NOT PROVED\nprove: `rt check pack` failed with status 1;"));
+    let told = "\nfn pack::judge: not proved\nprove: `rt check` in crates/pack failed with status 1;";
+    assert!(said.contains(told), "{said}");
 }
 
 #[test]
@@ -105,7 +106,7 @@ fn wrong_arguments_are_told_at_once() {
 #[test]
 fn a_refusal_is_listed_with_status_1() {
     let found = Command::new("rt").arg("version").output().is_ok();
-    if !found || !Path::new(ROOT).join("target/bin/routes").exists() {
+    if !found || !Path::new(ROOT).join("crates/routes/out/routes").exists() {
         println!("routes is not built here: its listing was not tried");
         return;
     }

@@ -12,7 +12,7 @@ use compare::shares::walk;
 use std::path::Path;
 use std::process::ExitCode;
 
-const REPLAY: &str = concat!(env!("CARGO_MANIFEST_DIR"), "/../target/bin/replay");
+const REPLAY: &str = concat!(env!("CARGO_MANIFEST_DIR"), "/../crates/replay/out/replay");
 
 fn main() -> ExitCode {
     if cfg!(not(feature = "link")) && !Path::new(REPLAY).exists() {

@@ -93,6 +93,7 @@ module _ (p : List ℕ) where
     -- with enough room such tables are accepted
     small-fits : {k n : ℕ} (o : Option Tables) → Small k n o → Enough (rows_for k n) l → ((passed o l).answer.number ≡ 0) × ((passed o l).answer.place ≡ 0)
     unfolding passed fitted accepted
+    small-fits {k = k} {n = n} none x'' h = elim x'' [ ]
     small-fits (some t) (small a b c d e) h =
         rw (
           le-ltb (l.mints / mint_width) t.room (omega (arith, h.mints)),

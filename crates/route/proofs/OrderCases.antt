@@ -129,7 +129,7 @@ pub met-joined : ¬ Apart (evidence_in met) (plains_in met)
 met-joined d = met-differs (same_bytes names worked_room met-pair.same met-pair.first met-pair.second d)
 
 -- in the second pair every chain starts at A, so the proviso holds
-led-mint : {a m : Key} → Chain (evidence_in led) (plains_in led) m a → m ≡ X
+led-mint : {m a : Key} → Chain (evidence_in led) (plains_in led) m a → m ≡ X
 led-mint (start o) = ap (λ r. r.1) (Memᴰ.eq_of_singleton (rw computed.2 at o.says.piece))
 led-mint (along c j f n) = led-mint c
 

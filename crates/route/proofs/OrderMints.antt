@@ -74,7 +74,7 @@ module _ (p : List ℕ) where
   joined-wide (joined (back q) i) = (plains-hold (program_at (section_of p 0)) (wide (section_of p 0)) (instructions_in p) (Memᴰ.cast q i)).0
 
   -- so have the account that a chain reaches, and its mint
-  chain-wide : {a m : Key} → Chain (evidence_in p) (plains_in p) m a → Wide a × Wide m
+  chain-wide : {m a : Key} → Chain (evidence_in p) (plains_in p) m a → Wide a × Wide m
   chain-wide (start o) =
       let k = evidence-holds (program_at (section_of p 0)) (wide (section_of p 0)) (view_of p).balances (instructions_in p) o.says.piece in
       (k.0, k.1 (balance-wide p))

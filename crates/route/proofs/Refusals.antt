@@ -34,6 +34,7 @@ without-0 [] = true
 without-0 (n ∷ l) = not (eqb n 0) && without-0 l
 
 not-0 : {n : ℕ} (l : List ℕ) → without-0 l ≡ true → Memᴰ n l → n ≢ 0
+not-0 {n = n} [] e h z = elim h [ ]
 not-0 (k ∷ l) e (Memᴰ.head q) z = eqb-false k 0 (not-true _ (and_left (not (eqb k 0)) (without-0 l) e)) (sym q ∙ z)
 not-0 (k ∷ l) e (Memᴰ.tail m) z = not-0 l (and_right (not (eqb k 0)) (without-0 l) e) m z
 
@@ -173,6 +174,7 @@ module _ (names p : List ℕ) (l : Lent) where
       done))))))))
 
   places_of : {xs : List Refusal} {x : Refusal} {k : ℕ} → InPlaces names p l xs → Memᴰ x xs → x.met names p l ≡ some k → Memᴰ k x.places
+  places_of {k = k} done h e = elim h [ ]
   places_of (also h r) (Memᴰ.head q) e = rw q (h _ (rw q at e))
   places_of (also h r) (Memᴰ.tail m) e = places_of r m e
 

@@ -22,10 +22,7 @@ use Prim.Native.Nat.{ℕ, ◌<◌}
 use mathlib.Core.Option.{some}
 use native.Mathlib.Omega.{arith}
 use borrow.Author.Rules.{rules}
-use Rattle.route.proofs.legs.put_one.Statement.{statement}
-use Rattle.route.proofs.legs.put_one.Tie as tie
 use Rattle.route.proofs.legs.put_one.Reads as reads
-use Rattle.route.proofs.legs.put_one.Lts as lts
 use Rattle.pack.proofs.accounts.Reads as accounts-reads
 use Rattle.pack.proofs.data.Reads as data_Reads
 use Rattle.pack.proofs.program.Reads as program-reads
@@ -34,72 +31,36 @@ use Rattle.route.proofs.transfers.mint.Reads as mint-reads
 use Rattle.swaps.proofs.leg.Reads as leg-reads
 use Rattle.swaps.proofs.row.put_leg.Reads as put-leg-reads
 use Rattle.swaps.proofs.trades.Reads as trades-reads
+use Rattle.route.proofs.legs.put_one.Goals as goal
 
-trades-requires : tie.Need-trades-requires
-trades-requires c κs = search rules
-
-returns : tie.Need-returns
+pub returns-then-not-trades : goal.returns-then-not-trades
 unfolding leg_rows placed
-returns c =
-    let a = c.before.before.before.before.before.before.before.before.args in
+returns-then-not-trades c =
+    let a = c.args in
     let v = instruction_at a.pack.now a.x.at in
     let ks = a.keys.now in
     let pools = pools_in a.pools.now in
     let e : trades (program_of ks v) ≡ false =
-    rw (← c.before.before.before.before.before.before.before.before.requires.2) (sym c.before.trades.ensures ∙ not-true c.before.trades.result c.if1.true) in
+    rw (← c.requires.2) (sym c.trades.ensures ∙ c.if-not-trades.true) in
     record { few = omega arith; counted = λ table h. rw (passed_over a.names.now ks pools table v e); rows = λ table h. rw (passed_over a.names.now ks pools table v e) }
 
-accounts-requires : tie.Need-accounts-requires
-accounts-requires c κs = search rules
+pub overflow_mul-x : goal.overflow_mul-x
+overflow_mul-x c = omega (arith, c.requires.1)
 
-data-requires : tie.Need-data-requires
-data-requires c κs = search rules
-
-leg-requires : tie.Need-leg-requires
-leg-requires c κs = search rules
-
-enum_told : tie.Need-enum-told
-enum_told c = search rules
-
-enum-known-found : tie.Need-enum-known-found
-enum-known-found c = search rules
-
-mint-requires : tie.Need-mint-requires
-mint-requires c κs = search rules
-
-mint-requires-2 : tie.Need-mint-requires-2
-mint-requires-2 c κs = search rules
-
-program-requires : tie.Need-program-requires
-program-requires c κs = search rules
-
-wide-requires : tie.Need-wide-requires
-wide-requires c κs = search rules
-
-mul-put-leg : tie.Need-overflow-mul-put-leg
-mul-put-leg c = omega (arith, c.before.before.before.before.before.before.before.before.before.before.before.before.before.before.before.before.before.before.before.before.requires.1)
-
-put-leg-requires : tie.Need-put-leg-requires
-put-leg-requires c κs = search rules
-
-returns-2 : tie.Need-returns-2
+pub returns-in-Nothing : goal.returns-in-Nothing
 unfolding leg_rows placed
-returns-2 c =
-    let start = c.before.before.before.before.before.before.before.before.before.before.before.before.before in
-    let a = start.args in
+returns-in-Nothing c =
+    let a = c.args in
     let v = instruction_at a.pack.now a.x.at in
     let ks = a.keys.now in
     let pools = pools_in a.pools.now in
     let e : leg_in_numbers a.names.now (key_of ks) (program_of ks v) v.accounts v.bytes ≡ Nothing =
-    sym (c.before.before.leg.ensures ∙ rw (c.before.before.before.before.accounts.ensures, c.before.before.before.«data».ensures, start.requires.2)) ∙ c.enum_told.given.1 in
+    sym (c.leg-found.ensures ∙ rw (c.accounts.ensures, c.«data».ensures, c.requires.2)) ∙ c.in-Nothing.is in
     record {
       few = omega arith;
       counted = λ table h. rw (leg-swap a.names.now ks pools table v, no_leg a.names.now (key_of ks) (program_of ks v) v.accounts v.bytes (mint_in table) pools e);
       rows = λ table h. rw (leg-swap a.names.now ks pools table v, no_leg a.names.now (key_of ks) (program_of ks v) v.accounts v.bytes (mint_in table) pools e);
     }
-
-same_length : tie.Need-same-length
-same_length c = search rules
 
 -- the leg that is found, with the mints that are handed on, is the instruction's swap
 is-leg : (ms names ks : List ℕ) (pools : List Key) (v : Instruction) (s : Swap)
@@ -111,19 +72,17 @@ is-leg ms names ks pools v s e table h p q =
     (h s.input p)
     (h s.output q)
 
-returns-3 : tie.Need-returns-3
+pub returns-in-Leg : goal.returns-in-Leg
 unfolding leg_rows placed
-returns-3 c =
-    let start = c.before.before.before.before.before.before.before.before.before.before.before.before.before.before.before.before.before.before.before.before.before.before.before in
-    let a = start.args in
+returns-in-Leg c =
+    let a = c.args in
     let v = instruction_at a.pack.now a.x.at in
     let ks = a.keys.now in
     let pools = pools_in a.pools.now in
-    let found = c.before.before.before.before.before.before.before.before.before.before.found.given in
-    let s = found.0.0 in
-    let known = c.before.before.before.before.before.before.before.before.before.known-told.given in
+    let s = c.in-Leg.leg in
+    let known = c.in-Leg.known_told-1-own.given in
     let e : leg_in_numbers a.names.now (key_of ks) (program_of ks v) v.accounts v.bytes ≡ Leg s =
-    sym (c.before.before.before.before.before.before.before.before.before.before.before.before.leg.ensures ∙ rw (c.before.before.before.before.before.before.before.before.before.before.before.before.before.before.accounts.ensures, c.before.before.before.before.before.before.before.before.before.before.before.before.before.«data».ensures, start.requires.2)) ∙ found.1 in
+    sym (c.leg-found.ensures ∙ rw (c.accounts.ensures, c.«data».ensures, c.requires.2)) ∙ c.in-Leg.is in
     let small : s.input < 256 = omega (arith, known) in
     let small2 : s.output < 256 = omega (arith, known) in
     record {
@@ -132,26 +91,5 @@ returns-3 c =
       rows =
           λ table h.
           rw
-          (leg-swap a.names.now ks pools table v, is-leg a.mints.now a.names.now ks pools v s e table h small small2, c.before.before.put-leg.ensures, c.before.before.before.before.before.before.before.before.mint.ensures, c.before.before.before.before.before.before.before.mint2.ensures, c.before.before.before.before.before.wide.ensures, c.before.before.before.before.before.before.program.ensures);
+          (leg-swap a.names.now ks pools table v, is-leg a.mints.now a.names.now ks pools v s e table h small small2, c.put_leg.ensures, c.mint-spent.ensures, c.mint-bought.ensures, c.wide-program.ensures, c.program.ensures);
     }
-
-pub put-one-spec : {M : Type 1} → statement M
-put-one-spec =
-    tie.close
-    (tie.spec
-    trades-requires
-    returns
-    accounts-requires
-    data-requires
-    leg-requires
-    enum_told
-    enum-known-found
-    mint-requires
-    mint-requires-2
-    program-requires
-    wide-requires
-    mul-put-leg
-    put-leg-requires
-    returns-2
-    same_length
-    returns-3)

@@ -1,0 +1,30 @@
+-- Each summand is a part of the definition's sum, and all bits together stay below 64.
+use Rattle.route.specs.Arrays.{bits_at}
+use Rattle.route.proofs.Row.{program_bits-le, own_bits-le}
+use lib.ListN.{get_or}
+use native.Mathlib.Omega.{arith}
+use borrow.Author.Rules.{rules}
+use Rattle.route.proofs.invocations.bits.Reads as reads
+use Rattle.ids.proofs.of_number.Reads as of-number-reads
+use Rattle.route.proofs.invocations.own_bits.Reads as own-bits-reads
+use Rattle.route.proofs.invocations.program_bits.Reads as program-bits-reads
+use Rattle.route.proofs.invocations.bits.Goals as goal
+
+pub overflow_add-result : goal.overflow_add-result
+overflow_add-result c =
+    omega (arith, c.program_bits.ensures, program_bits-le c.of_number.result, c.requires.1)
+
+pub overflow_add-result-2 : goal.overflow_add-result-2
+overflow_add-result-2 c =
+    omega (
+      arith,
+      c.own_bits.ensures,
+      c.program_bits.ensures,
+      program_bits-le c.of_number.result,
+      own_bits-le (get_or c.args.reasons.now c.args.i 0) (get_or c.args.leg.now c.args.i 0),
+      c.requires.1,
+    )
+
+pub returns : goal.returns
+unfolding bits_at
+returns c = rw (c.own_bits.ensures, c.program_bits.ensures, c.of_number.ensures)

@@ -1,0 +1,28 @@
+-- The array so far holds what each invocation so far has itself.
+use Rattle.route.specs.Arrays.{own_at}
+use Rattle.route.proofs.Rows.{array-more}
+use Rattle.wire.specs.Tab.{tab}
+use lib.Seq.{sets}
+use Prim.Native.Nat.{◌-◌, ◌≤◌}
+use mathlib.Core.Path.{◌≡◌, refl}
+use native.Mathlib.Omega.{arith}
+use Rattle.route.proofs.invocations.put_own.Reads as reads
+use Rattle.route.proofs.invocations.own_for.Reads as own-for-reads
+use Rattle.route.proofs.invocations.put_own.Goals as goal
+
+pub loop-i-init : goal.loop-i-init
+unfolding tab
+loop-i-init c = (omega arith, refl)
+
+pub loop-i-preserved : goal.loop-i-preserved
+unfolding own_at
+loop-i-preserved c =
+    let l = c.loop-i in
+    let a = c.args in
+    (omega arith, rw c.own_for.ensures (array-more (own_at a.reasons.now a.leg.now) l.i a.own.now l.own l.invariant.1))
+
+pub returns : goal.returns
+returns c =
+    let l = c.loop-i in
+    let e : l.i ≡ c.args.n = omega arith in
+    rw e at l.invariant.1

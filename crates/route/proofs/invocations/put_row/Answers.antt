@@ -1,0 +1,30 @@
+-- The eight fields are stored one behind the other, and fill the row.
+use Rattle.route.proofs.Row.{fields}
+use Rattle.pack.specs.Invocation.{lowered}
+use Rattle.wire.specs.Zeros.{zeros}
+use lib.Seq.{sets}
+use mathlib.Core.Path.{refl, ap}
+use borrow.Author.Rules.{rules}
+use Rattle.route.proofs.invocations.put_row.Reads as reads
+use Rattle.route.proofs.invocations.put_flagged.Reads as put-flagged-reads
+use Rattle.wire.proofs.put.Reads as put_reads
+use Rattle.wire.proofs.put_byte.Reads as put-byte-reads
+use Rattle.wire.proofs.put_u32.Reads as put-u32-reads
+use Rattle.route.specs.Widths.{invocation_width}
+use Rattle.route.proofs.invocations.put_row.Goals as goal
+
+pub returns : goal.returns
+returns c =
+    let a = c.args in
+    rw (
+      c.put.ensures,
+      c.put_byte-2.ensures,
+      c.put_u32-4.ensures,
+      c.put_u32-3.ensures,
+      c.put_byte.ensures,
+      c.put_u32-2.ensures,
+      c.put_flagged-2.ensures,
+      c.put_flagged.ensures,
+      c.put_u32.ensures,
+    )
+    (ap (sets a.out.now a.at) (fields (zeros invocation_width) (record { outer = a.outer; inner = lowered a.inner; height = lowered a.height }) a.end a.bits a.leg a.parent a.reason refl))

@@ -1,0 +1,60 @@
+-- The bits inside each block come from `subtrees`, given what each invocation has itself; so row by row the table is that of the definition.
+use Rattle.route.specs.Arrays.{row_at}
+use Rattle.route.specs.Lay.{placed}
+use Rattle.route.specs.Widths.{invocation_width}
+use Rattle.route.proofs.Rows.{placed-more}
+use Rattle.route.proofs.Assembled.{row_by}
+use Rattle.route.proofs.Finishing.{inside-le}
+use Rattle.wire.specs.Tab.{tab}
+use Rattle.subtrees.specs.Subtrees.{taken, positions, Subtrees}
+use Rattle.subtrees.proofs.Arrays.{taken-all, positions-length}
+use Rattle.pack.specs.Invocation.{position_at}
+use lib.ListN.{length}
+use Prim.Native.Nat.{ℕ, ◌-◌, ◌≤◌}
+use mathlib.Core.List.{List}
+use mathlib.Core.Path.{◌≡◌, refl, ◌∙◌}
+use native.Mathlib.Omega.{arith}
+use Rattle.route.proofs.invocations.put_rows.Reads as reads
+use Rattle.route.proofs.invocations.bits.Reads as bits-reads
+use Rattle.route.proofs.invocations.put_own.Reads as put-own-reads
+use Rattle.route.proofs.invocations.put_row.Reads as put-row-reads
+use Rattle.subtrees.proofs.subtrees.Reads as subtrees-reads
+use Rattle.route.proofs.invocations.put_rows.Goals as goal
+
+pub put_own-requires : goal.put_own-requires
+put_own-requires c = c.requires
+
+pub loop-i-init : goal.loop-i-init
+unfolding tab placed
+loop-i-init c = (omega arith, refl, refl)
+
+pub bits-b-requires : goal.bits-b-requires
+bits-b-requires c = (omega arith, inside-le c.subtrees-tests.ensures c.loop-i.i)
+
+-- no more than 1,024 invocations are all looked at
+blocked : {own ends inside parents : List ℕ} {tests : ℕ} (outer inner height : List ℕ) (n : ℕ) → n ≤ 1024 → Subtrees (positions outer inner height (taken n)) own tests ends inside parents → Subtrees (positions outer inner height n) own tests ends inside parents
+blocked outer inner height n few s = rw (taken-all n few) at s
+
+pub loop-i-preserved : goal.loop-i-preserved
+unfolding position_at
+loop-i-preserved c =
+    let l = c.loop-i in
+    let a = c.args in
+    let ps = positions a.outer.now a.inner.now a.height.now a.n in
+    let blocks = blocked a.outer.now a.inner.now a.height.now a.n c.requires c.subtrees-tests.ensures in
+    let put = c.put_row in (
+      omega arith,
+      put.auto.out ∙ l.invariant.1,
+      placed-more invocation_width (row_at ps a.programs.now a.reasons.now a.leg.now) l.i a.out.now l.out _ l.invariant.2
+          (put.ensures ∙ rw (c.bits-b.ensures, ← (row_by a.n _ a.outer.now a.inner.now a.height.now a.programs.now a.reasons.now a.leg.now _ _ _ _ c.requires c.put_own.ensures blocks l.i (omega arith)))),
+    )
+
+pub shape_of-out : goal.shape_of-out
+shape_of-out c = c.loop-i.invariant.1
+
+pub returns : goal.returns
+returns c =
+    let l = c.loop-i in
+    let a = c.args in
+    let e : l.i ≡ length (positions a.outer.now a.inner.now a.height.now a.n) = omega (arith, positions-length a.outer.now a.inner.now a.height.now a.n) in
+    record { tests = (blocked a.outer.now a.inner.now a.height.now a.n c.requires c.subtrees-tests.ensures).tests; rows = l.invariant.2 ∙ rw e }

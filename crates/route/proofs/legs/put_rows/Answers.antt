@@ -1,0 +1,62 @@
+-- The rows so far are those of the invocations so far, and each candidate adds its own behind them.
+use Rattle.route.proofs.Rows.{candidate, fills-none, fills-more, numbers-none, numbers_more}
+use Rattle.route.specs.Known.{Puts, Fills, Numbers}
+use Rattle.route.specs.Widths.{leg_width}
+use Rattle.route.specs.Legs.{leg_rows_in}
+use Rattle.pack.specs.Sections.{section_of}
+use lib.ListN.{length}
+use Prim.Native.Nat.{◌-◌, ◌≤◌}
+use mathlib.Core.Path.{◌≡◌, refl, ◌∙◌}
+use native.Mathlib.Omega.{arith}
+use Rattle.route.proofs.legs.put_rows.Reads as reads
+use Rattle.ids.proofs.of_number.Reads as of-number-reads
+use Rattle.pack.proofs.section.Reads as section-reads
+use Rattle.route.proofs.invocations.wide.Reads as wide-reads
+use Rattle.route.proofs.legs.number.Reads as number-reads
+use Rattle.route.proofs.legs.put_one.Reads as put-one-reads
+use Rattle.route.proofs.legs.put_rows.Goals as goal
+
+pub loop-i-init : goal.loop-i-init
+loop-i-init c =
+    let a = c.args in (
+      omega arith,
+      omega arith,
+      refl,
+      fills-none a.mints.now a.pack.now a.at.now (leg_rows_in a.names.now a.pack.now) leg_width a.out.now,
+      numbers-none a.mints.now a.pack.now a.at.now (leg_rows_in a.names.now a.pack.now) a.leg.now,
+    )
+
+pub put_one-r-requires : goal.put_one-r-requires
+put_one-r-requires c =
+    (c.requires.1, omega arith, rw (c.section-keys.ensures, c.wide.ensures) (c.of_number.ensures ∙ c.requires.2 c.loop-i.i (omega arith)))
+
+pub number-requires : goal.number-requires
+number-requires c = (c.put_one-r.ensures.few, omega arith)
+
+pub overflow_add-k : goal.overflow_add-k
+overflow_add-k c = omega (arith, c.wide-k.ensures, c.put_one-r.ensures.few)
+
+pub loop-i-preserved : goal.loop-i-preserved
+loop-i-preserved c =
+    let l = c.loop-i in
+    let a = c.args in
+    let f = leg_rows_in a.names.now a.pack.now in
+    let put = c.put_one-r in
+    let id = c.of_number.result in
+    let one : Puts a.mints.now (section_of a.pack.now 0) a.pack.now f leg_width (candidate a.at.now id l.i l.k) put.result l.out put.new.out =
+    rw (c.section-keys.ensures, c.section-pools.ensures, c.wide.ensures) at put.ensures in (
+      omega arith,
+      omega (arith, c.wide-k.ensures, one.few),
+      put.auto.out ∙ l.invariant.2,
+      rw c.wide-k.ensures (fills-more a.mints.now a.pack.now a.at.now f id leg_width l.i l.k put.result a.out.now l.out _ l.invariant.3 one),
+      rw c.number.ensures (numbers_more a.mints.now a.pack.now a.at.now f id leg_width l.i l.k put.result a.out.now l.out _ a.leg.now l.leg l.invariant.4 l.invariant.3 one),
+    )
+
+pub shape_of-out : goal.shape_of-out
+shape_of-out c = c.loop-i.invariant.2
+
+pub returns : goal.returns
+returns c =
+    let l = c.loop-i in
+    let e : l.i ≡ c.args.n = omega arith in
+    record { fills = rw e at l.invariant.3; numbers = rw e at l.invariant.4 }

@@ -1,0 +1,66 @@
+-- The rows so far are those of the invocations so far, and each candidate adds its own behind them.
+use Rattle.route.proofs.Moving.{rows-le}
+use Rattle.route.proofs.Rows.{candidate, fills-none, fills-more, array-more}
+use Rattle.route.specs.Arrays.{item_at}
+use Rattle.route.specs.Known.{Puts, Fills}
+use Rattle.route.specs.Widths.{transfer_width}
+use Rattle.route.specs.Transfers.{transfer_rows, reason_in, reasons_of, transfer_count}
+use Rattle.pack.specs.Sections.{section_of}
+use Rattle.wire.specs.Tab.{tab}
+use lib.ListN.{length}
+use lib.Seq.{sets}
+use Prim.Native.Nat.{◌-◌, ◌≤◌}
+use mathlib.Core.Path.{◌≡◌, refl, ◌∙◌}
+use native.Mathlib.Omega.{arith}
+use Rattle.route.proofs.transfers.put_rows.Reads as reads
+use Rattle.ids.proofs.of_number.Reads as of-number-reads
+use Rattle.pack.proofs.section.Reads as section-reads
+use Rattle.route.proofs.invocations.wide.Reads as wide-reads
+use Rattle.route.proofs.transfers.put_one.Reads as put-one-reads
+use Rattle.route.proofs.transfers.put_rows.Goals as goal
+
+pub loop-i-init : goal.loop-i-init
+unfolding tab
+loop-i-init c =
+    let a = c.args in (
+      omega arith,
+      omega arith,
+      refl,
+      fills-none a.mints.now a.pack.now a.at.now (transfer_rows (section_of a.pack.now 0)) transfer_width a.out.now,
+      refl,
+    )
+
+pub put_one-r-requires : goal.put_one-r-requires
+put_one-r-requires c =
+    (c.requires.1, omega arith, rw (c.section-keys.ensures, c.wide.ensures) (c.of_number.ensures ∙ c.requires.2 c.loop-i.i (omega arith)))
+
+pub overflow_add-k : goal.overflow_add-k
+overflow_add-k c = omega (arith, c.rows-k.ensures, rows-le c.put_one-r.result)
+
+pub loop-i-preserved : goal.loop-i-preserved
+loop-i-preserved c =
+    let l = c.loop-i in
+    let a = c.args in
+    let f = transfer_rows (section_of a.pack.now 0) in
+    let put = c.put_one-r in
+    let id = c.of_number.result in
+    let keys = c.section-keys.ensures in
+    let offset = c.wide.ensures in
+    let one : Puts a.mints.now (section_of a.pack.now 0) a.pack.now f transfer_width (candidate a.at.now id l.i l.k) (transfer_count put.result) l.out put.new.out =
+    rw (keys, offset) at put.ensures.puts in
+    let told : put.result ≡ reason_in (section_of a.pack.now 0) (item_at a.pack.now a.at.now l.i) = rw (keys, offset) at put.ensures.value in (
+      omega arith,
+      omega (arith, c.rows-k.ensures, one.few),
+      put.auto.out ∙ l.invariant.2,
+      rw c.rows-k.ensures (fills-more a.mints.now a.pack.now a.at.now f id transfer_width l.i l.k (transfer_count put.result) a.out.now l.out _ l.invariant.3 one),
+      rw told (array-more (λ i. reason_in (section_of a.pack.now 0) (item_at a.pack.now a.at.now i)) l.i a.reasons.now l.reasons l.invariant.4),
+    )
+
+pub shape_of-out : goal.shape_of-out
+shape_of-out c = c.loop-i.invariant.2
+
+pub returns : goal.returns
+returns c =
+    let l = c.loop-i in
+    let e : l.i ≡ c.args.n = omega arith in
+    record { fills = rw e at l.invariant.3; reasons_after = rw e at l.invariant.4 }
