@@ -16,7 +16,7 @@ use Rattle.ids.specs.Keys.{key_of, key_count}
 use Rattle.ids.specs.Which.{of_number}
 use Rattle.pack.specs.Invocation.{Invocation, instruction_at, position_at}
 use Rattle.pack.specs.Sections.{section_of}
-use Rattle.pack.specs.Items.{keys_fill, rows_fill, rows}
+use Rattle.pack.specs.Items.{keys_fill, rows_fill}
 use Rattle.pack.specs.View.{view_of, pools_in}
 use Rattle.pack.specs.Flatten.{flatten}
 use Rattle.pack.specs.Layout.{Flattened, at_of, layout}

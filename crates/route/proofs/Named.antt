@@ -1,7 +1,7 @@
 -- Every balance row of a pack that is taken names a key: what the rows say of mints is the same, whatever is put for a key that is missing.
 -- Assumes nothing.
-use mathlib.Core.Path.{◌≡◌, refl, ap, ◌∙◌}
-use mathlib.Core.Bool.{Bool, true, false, cond}
+use mathlib.Core.Path.{◌≡◌, refl}
+use mathlib.Core.Bool.{Bool, true, false}
 use mathlib.Core.List.{List, [], ◌∷◌, ◌++◌, Memᴰ}
 use Prim.Native.Nat.{ℕ, ◌<◌}
 use lib.Dec.{eqb}
@@ -11,12 +11,12 @@ use Rattle.ids.specs.Keys.{Key, zero_key, key_at, key_of}
 use Rattle.ids.specs.Which.{program_at}
 use Rattle.pack.specs.Sections.{section_of}
 use Rattle.pack.specs.View.{view_of}
-use Rattle.pack.specs.Verdict.{verdict, refusal_number, place_of}
+use Rattle.pack.specs.Verdict.{verdict, refusal_number}
 use Rattle.pack.proofs.Named.{named, named-key}
 use Rattle.evidence.specs.Table.{Row}
 use Rattle.evidence.specs.Gather.{gather}
 use Rattle.mints.specs.Inference.{balance_says, says, evidence_of}
-use Rattle.route.specs.Route.{Lent, refused, passed, tables_in, judged, route}
+use Rattle.route.specs.Route.{Lent, refused, judged, route}
 use Rattle.route.specs.Order.{instructions_in, evidence_in, InputTaken}
 use Rattle.route.proofs.Ways.{of-names, of-pack}
 

@@ -9,11 +9,9 @@ use mathlib.Core.List.{List, [], ◌∷◌, ◌++◌}
 use Prim.Native.Nat.{ℕ}
 use native.Mathlib.Omega.{arith}
 use lib.ListN.{get_or}
-use Rattle.wire.specs.Same.{same}
 use Rattle.ids.specs.Keys.{Key}
 use Rattle.pack.specs.Invocation.{Instruction}
-use Rattle.evidence.specs.MintTable.{mints, MintRow}
-use Rattle.mints.specs.Inference.{says}
+use Rattle.evidence.specs.MintTable.{MintRow}
 use Rattle.route.specs.Route.{route}
 use Rattle.route.specs.MarkedCases.{key, keys_for, saying, pays, meeting, A, B, C, X, Y}
 use Rattle.ids.specs.declared.Id.TheVariants.{SplToken}

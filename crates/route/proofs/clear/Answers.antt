@@ -4,9 +4,6 @@ use mathlib.Core.Path.{◌≡◌, sym, ap, ◌∙◌}
 use lib.ListN.{length}
 use Prim.Native.Nat.{ℕ}
 use Rattle.wire.specs.Zeros.{zeros}
-use borrow.Author.Rules.{rules}
-use Rattle.route.proofs.clear.Reads as reads
-use Rattle.wire.proofs.clear.Reads as clear_reads
 use Rattle.route.proofs.clear.Goals as goal
 
 -- zeros, as many as there are bytes

@@ -1,11 +1,6 @@
 -- The tables are cleared, filled and settled: after a success they hold what `fill` promises, after a refusal zeros.
 use Rattle.route.proofs.Called.{leaves}
 use mathlib.Core.Path.{◌∙◌}
-use borrow.Author.Rules.{rules}
-use Rattle.route.proofs.route.Reads as reads
-use Rattle.route.proofs.clear.Reads as clear_reads
-use Rattle.route.proofs.fill.fill.Reads as fill-reads
-use Rattle.route.proofs.settle.Reads as settle-reads
 use Rattle.route.proofs.route.Goals as goal
 
 pub shape_of-t0 : goal.shape_of-t0

@@ -3,9 +3,6 @@ use mathlib.Core.Path.{ap, ◌∙◌}
 use borrow.Author.Tests.{eq-eqb, ne_eqb}
 use Rattle.wire.specs.Zeros.{zeros}
 use Rattle.route.specs.Filled.{settled_by}
-use borrow.Author.Rules.{rules}
-use Rattle.route.proofs.settle.Reads as reads
-use Rattle.route.proofs.clear.Reads as clear_reads
 use Rattle.route.proofs.settle.Goals as goal
 
 pub returns-then-number-eq0 : goal.returns-then-number-eq0

@@ -18,21 +18,8 @@ use mathlib.Core.List.{List}
 use mathlib.Core.Path.{◌≡◌, sym, ap, ◌∙◌}
 use mathlib.Core.Bool.{false, ◌||◌}
 use lib.ListN.{length}
-use borrow.Author.Tests.{not-true}
 use Prim.Native.Nat.{ℕ, ◌<◌}
 use native.Mathlib.Omega.{arith}
-use borrow.Author.Rules.{rules}
-use Rattle.route.proofs.actions.put_one.Reads as reads
-use Rattle.natives.proofs.acts.Reads as acts-reads
-use Rattle.natives.proofs.form.Reads as form-reads
-use Rattle.natives.proofs.held.Reads as held_reads
-use Rattle.natives.proofs.put_row.Reads as put-row-reads
-use Rattle.natives.proofs.settle.Reads as settle-reads
-use Rattle.natives.proofs.sized.Reads as sized_Reads
-use Rattle.pack.proofs.accounts.Reads as accounts-reads
-use Rattle.pack.proofs.data.Reads as data_Reads
-use Rattle.route.proofs.actions.count.Reads as count-reads
-use Rattle.route.proofs.transfers.mint.Reads as mint-reads
 use Rattle.route.proofs.actions.put_one.Goals as goal
 use Rattle.route.proofs.actions.put_one.Goals.{After-count, Start}
 

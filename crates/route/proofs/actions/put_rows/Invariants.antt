@@ -1,18 +1,11 @@
 -- The rows so far are those of the invocations so far, and each candidate adds its own behind them.
-use Rattle.route.proofs.Rows.{candidate, fills-none, fills-more}
-use Rattle.route.specs.Known.{Puts, Fills}
+use Rattle.route.specs.Known.{Fills}
 use Rattle.route.specs.Widths.{action_width}
 use Rattle.route.specs.Actions.{action_rows}
 use Rattle.pack.specs.Sections.{section_of}
 use lib.ListN.{length}
 use Prim.Native.Nat.{◌-◌, ◌≤◌}
-use mathlib.Core.Path.{◌≡◌, refl, ◌∙◌}
-use native.Mathlib.Omega.{arith}
-use Rattle.route.proofs.actions.put_rows.Reads as reads
-use Rattle.ids.proofs.of_number.Reads as of-number-reads
-use Rattle.pack.proofs.section.Reads as section-reads
-use Rattle.route.proofs.actions.put_one.Reads as put-one-reads
-use Rattle.route.proofs.invocations.wide.Reads as wide-reads
+use mathlib.Core.Path.{◌≡◌}
 use Rattle.route.proofs.actions.put_rows.Given as goal
 
 abbrev pub invariant-loop-i : goal.invariant-loop-i

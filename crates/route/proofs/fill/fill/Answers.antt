@@ -7,19 +7,6 @@ use Prim.Native.Nat.{ℕ}
 use native.Mathlib.Omega.{arith}
 use mathlib.Core.List.{List}
 use mathlib.Core.Path.{◌≡◌, sym, ap, ◌∙◌}
-use borrow.Author.Rules.{rules}
-use Rattle.route.proofs.fill.fill.Reads as reads
-use Rattle.mints.proofs.infer.Reads as infer-reads
-use Rattle.pack.proofs.flatten.Reads as flatten-reads
-use Rattle.pack.proofs.number.Reads as number-reads
-use Rattle.pack.proofs.place.Reads as place-reads
-use Rattle.pack.proofs.section.Reads as section-reads
-use Rattle.route.proofs.actions.put_rows.Reads as actions-put-rows-reads
-use Rattle.route.proofs.fit.fit.Reads as fit-reads
-use Rattle.route.proofs.fit.refusal.Reads as refusal-reads
-use Rattle.route.proofs.invocations.put_rows.Reads as invocations-put-rows-reads
-use Rattle.route.proofs.legs.put_rows.Reads as legs-put-rows-reads
-use Rattle.route.proofs.transfers.put_rows.Reads as transfers-put-rows-reads
 use Rattle.route.proofs.fill.fill.Goals as goal
 use Rattle.route.proofs.fill.fill.Goals.{After-infer-inferred}
 

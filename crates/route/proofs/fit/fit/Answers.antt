@@ -2,9 +2,6 @@
 use Rattle.route.specs.Fit.{fits}
 use borrow.Author.Tests.{lt-ltb, le-ltb}
 use mathlib.Core.Path.{◌∙◌}
-use borrow.Author.Rules.{rules}
-use Rattle.route.proofs.fit.fit.Reads as reads
-use Rattle.route.proofs.fit.refusal.Reads as refusal-reads
 use Rattle.route.proofs.fit.fit.Goals as goal
 
 pub returns-then-mints-room : goal.returns-then-mints-room

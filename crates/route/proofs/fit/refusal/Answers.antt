@@ -1,7 +1,6 @@
 -- The struct is the answer of the definition, field by field.
 use Rattle.route.specs.Route.{refused}
 use mathlib.Core.Path.{refl}
-use Rattle.route.proofs.fit.refusal.Reads as reads
 use Rattle.route.proofs.fit.refusal.Goals as goal
 
 pub returns : goal.returns

@@ -3,11 +3,6 @@ use Rattle.route.specs.Arrays.{bits_at}
 use Rattle.route.proofs.Row.{program_bits-le, own_bits-le}
 use lib.ListN.{get_or}
 use native.Mathlib.Omega.{arith}
-use borrow.Author.Rules.{rules}
-use Rattle.route.proofs.invocations.bits.Reads as reads
-use Rattle.ids.proofs.of_number.Reads as of-number-reads
-use Rattle.route.proofs.invocations.own_bits.Reads as own-bits-reads
-use Rattle.route.proofs.invocations.program_bits.Reads as program-bits-reads
 use Rattle.route.proofs.invocations.bits.Goals as goal
 
 pub overflow_add-result : goal.overflow_add-result

@@ -3,7 +3,6 @@ use Rattle.route.specs.Arrays.{own_bits}
 use Rattle.route.proofs.Row.{positive}
 use borrow.Author.Tests.{eq-eqb, ne_eqb, lt-ltb, le-ltb}
 use native.Mathlib.Nat.{le_of_eq}
-use Rattle.route.proofs.invocations.own_bits.Reads as reads
 use Rattle.route.proofs.invocations.own_bits.Goals as goal
 
 pub returns-then-reason-eq0 : goal.returns-then-reason-eq0

@@ -3,7 +3,6 @@ use Rattle.route.specs.Arrays.{own_for}
 use Rattle.route.proofs.Row.{positive}
 use borrow.Author.Tests.{eq-eqb, ne_eqb, lt-ltb, le-ltb}
 use native.Mathlib.Nat.{le_of_eq}
-use Rattle.route.proofs.invocations.own_for.Reads as reads
 use Rattle.route.proofs.invocations.own_for.Goals as goal
 
 pub returns-then-leg-eq0 : goal.returns-then-leg-eq0

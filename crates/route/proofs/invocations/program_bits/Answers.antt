@@ -1,7 +1,5 @@
 -- Each program has the bits that the definition computes for it.
 use Rattle.route.specs.Program.{program_bits}
-use borrow.Author.Rules.{rules}
-use Rattle.route.proofs.invocations.program_bits.Reads as reads
 use Rattle.route.proofs.invocations.program_bits.Goals as goal
 
 pub returns-in-SplToken : goal.returns-in-SplToken

@@ -5,10 +5,6 @@ use Rattle.pack.specs.Invocation.{lowered}
 use Rattle.wire.proofs.Laws.{le_bytes-low}
 use Prim.Native.Nat.{◌-◌}
 use native.Mathlib.Numerals.{add-one}
-use borrow.Author.Rules.{rules}
-use Rattle.route.proofs.invocations.put_flagged.Reads as reads
-use Rattle.wire.proofs.put_byte.Reads as put-byte-reads
-use Rattle.wire.proofs.put_u32.Reads as put-u32-reads
 use Rattle.route.proofs.invocations.put_flagged.Goals as goal
 
 pub returns-then-raised-eq0 : goal.returns-then-raised-eq0

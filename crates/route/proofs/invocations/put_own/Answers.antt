@@ -2,12 +2,8 @@
 use Rattle.route.specs.Arrays.{own_at}
 use Rattle.route.proofs.Rows.{array-more}
 use Rattle.wire.specs.Tab.{tab}
-use lib.Seq.{sets}
-use Prim.Native.Nat.{◌-◌, ◌≤◌}
 use mathlib.Core.Path.{◌≡◌, refl}
 use native.Mathlib.Omega.{arith}
-use Rattle.route.proofs.invocations.put_own.Reads as reads
-use Rattle.route.proofs.invocations.own_for.Reads as own-for-reads
 use Rattle.route.proofs.invocations.put_own.Goals as goal
 
 pub loop-i-init : goal.loop-i-init

@@ -1,13 +1,9 @@
 -- The array so far holds what each invocation so far has itself.
 use Rattle.route.specs.Arrays.{own_at}
-use Rattle.route.proofs.Rows.{array-more}
 use Rattle.wire.specs.Tab.{tab}
 use lib.Seq.{sets}
 use Prim.Native.Nat.{◌-◌, ◌≤◌}
-use mathlib.Core.Path.{◌≡◌, refl}
-use native.Mathlib.Omega.{arith}
-use Rattle.route.proofs.invocations.put_own.Reads as reads
-use Rattle.route.proofs.invocations.own_for.Reads as own-for-reads
+use mathlib.Core.Path.{◌≡◌}
 use Rattle.route.proofs.invocations.put_own.Given as goal
 
 abbrev pub invariant-loop-i : goal.invariant-loop-i

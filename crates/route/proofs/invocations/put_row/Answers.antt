@@ -4,12 +4,6 @@ use Rattle.pack.specs.Invocation.{lowered}
 use Rattle.wire.specs.Zeros.{zeros}
 use lib.Seq.{sets}
 use mathlib.Core.Path.{refl, ap}
-use borrow.Author.Rules.{rules}
-use Rattle.route.proofs.invocations.put_row.Reads as reads
-use Rattle.route.proofs.invocations.put_flagged.Reads as put-flagged-reads
-use Rattle.wire.proofs.put.Reads as put_reads
-use Rattle.wire.proofs.put_byte.Reads as put-byte-reads
-use Rattle.wire.proofs.put_u32.Reads as put-u32-reads
 use Rattle.route.specs.Widths.{invocation_width}
 use Rattle.route.proofs.invocations.put_row.Goals as goal
 

@@ -10,15 +10,10 @@ use Rattle.subtrees.specs.Subtrees.{taken, positions, Subtrees}
 use Rattle.subtrees.proofs.Arrays.{taken-all, positions-length}
 use Rattle.pack.specs.Invocation.{position_at}
 use lib.ListN.{length}
-use Prim.Native.Nat.{ℕ, ◌-◌, ◌≤◌}
+use Prim.Native.Nat.{ℕ, ◌≤◌}
 use mathlib.Core.List.{List}
 use mathlib.Core.Path.{◌≡◌, refl, ◌∙◌}
 use native.Mathlib.Omega.{arith}
-use Rattle.route.proofs.invocations.put_rows.Reads as reads
-use Rattle.route.proofs.invocations.bits.Reads as bits-reads
-use Rattle.route.proofs.invocations.put_own.Reads as put-own-reads
-use Rattle.route.proofs.invocations.put_row.Reads as put-row-reads
-use Rattle.subtrees.proofs.subtrees.Reads as subtrees-reads
 use Rattle.route.proofs.invocations.put_rows.Goals as goal
 
 pub put_own-requires : goal.put_own-requires

@@ -3,8 +3,6 @@ use native.Mathlib.Nat.{zero-mul, one-mul}
 use native.Mathlib.Numerals.{add-one}
 use native.Mathlib.Omega.{arith}
 use mathlib.Core.Path.{◌≡◌}
-use borrow.Author.Rules.{rules}
-use Rattle.route.proofs.legs.number.Reads as reads
 use Rattle.route.proofs.legs.number.Goals as goal
 
 pub returns-then-r-eq0 : goal.returns-then-r-eq0

@@ -1,5 +1,4 @@
 -- The leg that is found, with the mints of its two accounts, is the instruction's swap, and its row is put; a program that does not trade has none.
-use borrow.Author.Tests.{not-true}
 use Rattle.route.proofs.Legging.{passed_over, leg-swap}
 use Rattle.route.specs.Known.{known_mint, Holds}
 use Rattle.route.specs.Lay.{placed}
@@ -21,16 +20,6 @@ use mathlib.Core.Bool.{false}
 use Prim.Native.Nat.{ℕ, ◌<◌}
 use mathlib.Core.Option.{some}
 use native.Mathlib.Omega.{arith}
-use borrow.Author.Rules.{rules}
-use Rattle.route.proofs.legs.put_one.Reads as reads
-use Rattle.pack.proofs.accounts.Reads as accounts-reads
-use Rattle.pack.proofs.data.Reads as data_Reads
-use Rattle.pack.proofs.program.Reads as program-reads
-use Rattle.route.proofs.invocations.wide.Reads as wide-reads
-use Rattle.route.proofs.transfers.mint.Reads as mint-reads
-use Rattle.swaps.proofs.leg.Reads as leg-reads
-use Rattle.swaps.proofs.row.put_leg.Reads as put-leg-reads
-use Rattle.swaps.proofs.trades.Reads as trades-reads
 use Rattle.route.proofs.legs.put_one.Goals as goal
 
 pub returns-then-not-trades : goal.returns-then-not-trades

@@ -1,19 +1,10 @@
 -- The rows so far are those of the invocations so far, and each candidate adds its own behind them.
-use Rattle.route.proofs.Rows.{candidate, fills-none, fills-more, numbers-none, numbers_more}
-use Rattle.route.specs.Known.{Puts, Fills, Numbers}
+use Rattle.route.specs.Known.{Fills, Numbers}
 use Rattle.route.specs.Widths.{leg_width}
 use Rattle.route.specs.Legs.{leg_rows_in}
-use Rattle.pack.specs.Sections.{section_of}
 use lib.ListN.{length}
 use Prim.Native.Nat.{◌-◌, ◌≤◌}
-use mathlib.Core.Path.{◌≡◌, refl, ◌∙◌}
-use native.Mathlib.Omega.{arith}
-use Rattle.route.proofs.legs.put_rows.Reads as reads
-use Rattle.ids.proofs.of_number.Reads as of-number-reads
-use Rattle.pack.proofs.section.Reads as section-reads
-use Rattle.route.proofs.invocations.wide.Reads as wide-reads
-use Rattle.route.proofs.legs.number.Reads as number-reads
-use Rattle.route.proofs.legs.put_one.Reads as put-one-reads
+use mathlib.Core.Path.{◌≡◌}
 use Rattle.route.proofs.legs.put_rows.Given as goal
 
 abbrev pub invariant-loop-i : goal.invariant-loop-i

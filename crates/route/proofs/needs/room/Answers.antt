@@ -4,17 +4,11 @@ use mathlib.Core.List.{List}
 use Prim.Native.Nat.{ℕ, ◌/◌}
 use native.Mathlib.Omega.{arith}
 use lib.ListN.{length}
-use borrow.Author.Rules.{rules}
 use Rattle.pack.specs.Verdict.{verdict, refusal_number}
 use Rattle.pack.proofs.Sizes.{keys_length}
 use Rattle.pack.proofs.Good.{passed}
 use Rattle.pack.proofs.Entries.{count-is}
 use Rattle.route.proofs.Enough.{needed-refused, needed-rows}
-use Rattle.route.proofs.needs.room.Reads as reads
-use Rattle.pack.proofs.flatten.Reads as flatten-reads
-use Rattle.pack.proofs.number.Reads as number-reads
-use Rattle.pack.proofs.place.Reads as place-reads
-use Rattle.pack.proofs.section.Reads as section-reads
 use Rattle.route.proofs.needs.room.Goals as goal
 
 pub returns-then-number-ne0 : goal.returns-then-number-ne0

@@ -1,7 +1,5 @@
 -- The 32 bytes at 32 times the index are the mint that the array holds there.
 use native.Mathlib.Nat.{add-sub_cancel_left}
-use borrow.Author.Rules.{rules}
-use Rattle.route.proofs.transfers.mint.Reads as reads
 use Rattle.route.proofs.transfers.mint.Goals as goal
 
 pub returns : goal.returns

@@ -18,18 +18,6 @@ use mathlib.Core.List.{List}
 use mathlib.Core.Path.{◌≡◌, sym, ap, ◌∙◌}
 use mathlib.Core.Bool.{false}
 use Prim.Native.Nat.{ℕ}
-use borrow.Author.Tests.{not-true}
-use borrow.Author.Rules.{rules}
-use Rattle.route.proofs.transfers.put_one.Reads as reads
-use Rattle.pack.proofs.accounts.Reads as accounts-reads
-use Rattle.pack.proofs.data.Reads as data_Reads
-use Rattle.pack.proofs.program.Reads as program-reads
-use Rattle.route.proofs.transfers.mint.Reads as mint-reads
-use Rattle.token.proofs.reason.Reads as reason-reads
-use Rattle.token.proofs.row.put_row.Reads as put-row-reads
-use Rattle.token.proofs.source.Reads as source-reads
-use Rattle.token.proofs.token_program.Reads as token-program-reads
-use Rattle.token.proofs.transfer.Reads as transfer-reads
 use Rattle.route.proofs.transfers.put_one.Goals as goal
 use Rattle.route.proofs.transfers.put_one.Goals.{After-reason-2, Start}
 

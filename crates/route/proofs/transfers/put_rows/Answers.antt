@@ -2,21 +2,13 @@
 use Rattle.route.proofs.Moving.{rows-le}
 use Rattle.route.proofs.Rows.{candidate, fills-none, fills-more, array-more}
 use Rattle.route.specs.Arrays.{item_at}
-use Rattle.route.specs.Known.{Puts, Fills}
+use Rattle.route.specs.Known.{Puts}
 use Rattle.route.specs.Widths.{transfer_width}
-use Rattle.route.specs.Transfers.{transfer_rows, reason_in, reasons_of, transfer_count}
+use Rattle.route.specs.Transfers.{transfer_rows, reason_in, transfer_count}
 use Rattle.pack.specs.Sections.{section_of}
 use Rattle.wire.specs.Tab.{tab}
-use lib.ListN.{length}
-use lib.Seq.{sets}
-use Prim.Native.Nat.{◌-◌, ◌≤◌}
 use mathlib.Core.Path.{◌≡◌, refl, ◌∙◌}
 use native.Mathlib.Omega.{arith}
-use Rattle.route.proofs.transfers.put_rows.Reads as reads
-use Rattle.ids.proofs.of_number.Reads as of-number-reads
-use Rattle.pack.proofs.section.Reads as section-reads
-use Rattle.route.proofs.invocations.wide.Reads as wide-reads
-use Rattle.route.proofs.transfers.put_one.Reads as put-one-reads
 use Rattle.route.proofs.transfers.put_rows.Goals as goal
 
 pub loop-i-init : goal.loop-i-init

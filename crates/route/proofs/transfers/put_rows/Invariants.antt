@@ -1,22 +1,12 @@
 -- The rows so far are those of the invocations so far, and each candidate adds its own behind them.
-use Rattle.route.proofs.Moving.{rows-le}
-use Rattle.route.proofs.Rows.{candidate, fills-none, fills-more, array-more}
-use Rattle.route.specs.Arrays.{item_at}
-use Rattle.route.specs.Known.{Puts, Fills}
+use Rattle.route.specs.Known.{Fills}
 use Rattle.route.specs.Widths.{transfer_width}
-use Rattle.route.specs.Transfers.{transfer_rows, reason_in, reasons_of, transfer_count}
+use Rattle.route.specs.Transfers.{transfer_rows, reasons_of}
 use Rattle.pack.specs.Sections.{section_of}
-use Rattle.wire.specs.Tab.{tab}
 use lib.ListN.{length}
 use lib.Seq.{sets}
 use Prim.Native.Nat.{◌-◌, ◌≤◌}
-use mathlib.Core.Path.{◌≡◌, refl, ◌∙◌}
-use native.Mathlib.Omega.{arith}
-use Rattle.route.proofs.transfers.put_rows.Reads as reads
-use Rattle.ids.proofs.of_number.Reads as of-number-reads
-use Rattle.pack.proofs.section.Reads as section-reads
-use Rattle.route.proofs.invocations.wide.Reads as wide-reads
-use Rattle.route.proofs.transfers.put_one.Reads as put-one-reads
+use mathlib.Core.Path.{◌≡◌}
 use Rattle.route.proofs.transfers.put_rows.Given as goal
 
 abbrev pub invariant-loop-i : goal.invariant-loop-i
