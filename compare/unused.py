@@ -55,7 +55,8 @@ def parts(text):
 
 def main():
     declared, named = [], defaultdict(set)
-    for path in sorted((TOP / "crates").glob("*/*/**/*.antt")) + sorted((TOP / "crates").glob("*/src/**/*.rt")):
+    kinds = ("specs/**/*.antt", "proofs/**/*.antt", "src/**/*.rt")
+    for path in sorted(path for kind in kinds for path in (TOP / "crates").glob(f"*/{kind}")):
         crate, area, *rest = path.relative_to(TOP / "crates").parts
         module = ".".join(rest).removesuffix(".antt")
         text = path.read_text(encoding="utf-8")
