@@ -5,10 +5,15 @@ use std::fs::File;
 use std::rt::Files;
 use std::{env, io};
 
-fn case<R: Files + Print + AllocGlobal>(rt: &R, path: &str) -> io::Result<()> {
-    let file = File::open(rt, path)?;
-    println!(rt; "{path}")?;
-    listing::print(rt.alloc(), file, &mut io::writer(rt))
+// A file that cannot be opened is told and passed over.
+fn case<R: Files + Print + Eprint + AllocGlobal>(rt: &R, path: &str) -> io::Result<()> {
+    match File::open(rt, path) {
+        Ok(file) => {
+            println!(rt; "{path}")?;
+            listing::print(rt.alloc(), file, &mut io::writer(rt))
+        }
+        Err(error) => eprintln!(rt; "{path}: {error}"),
+    }
 }
 
 fn main(rt: HostRuntime) -> io::Result<()> {
