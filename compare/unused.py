@@ -16,7 +16,7 @@ KIND = re.compile(r" *(?:(?:pub|unfoldable|abbrev|opaque|data|record) )*")
 USE = re.compile(r"(?:ghost |pub )*use Rattle\.(\w+)\.(specs|proofs)\.(\S+?)\.\{(.*)\};?$")
 ALIAS = re.compile(r"(?:ghost |pub )*use Rattle\.(\w+)\.(specs|proofs)\.(\S+) as (\S+?);?$")
 # The files of a function's proof: what they declare of `goal` is asked by the prover.
-PROOFS = ("Answers.antt", "Invariants.antt", "Proof.antt")
+PROOFS = ("Answers.antt", "Invariants.antt")
 
 
 def words(line):
