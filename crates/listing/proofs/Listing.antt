@@ -9,7 +9,7 @@ use native.Mathlib.Omega.{arith}
 use lib.ListN.{take, drop}
 use Rattle.route.specs.declared.Answer.{Answer}
 use Rattle.route.specs.Route.{lent, Leaves}
-use Rattle.listing.specs.Listing.{line, row_in, lines_from, lent_room, route_of}
+use Rattle.listing.specs.Listing.{line, row_in, lines_from, listed, lent_room, route_of, listing}
 use Rattle.listing.specs.Puts.{PutsText}
 use Rattle.listing.proofs.Putting.{puts-next}
 
@@ -35,3 +35,9 @@ pub routed-by : (input : List ℕ) {names p t0 t1 t2 t3 t4 : List ℕ} {r : Answ
     → names ≡ take 88 input → p ≡ drop 88 input → lent t0 t1 t2 t3 t4 ≡ lent_room → (r ≡ (route_of input).answer) × (o1 ≡ (route_of input).invocations)
 unfolding route_of
 routed-by input x n q l = rw (x.answer, x.invocations, n, q, l) (refl, refl)
+
+-- what is printed of it is the listing
+pub listing-by : (input : List ℕ) {names p t0 t1 t2 t3 t4 : List ℕ} {r : Answer} {o0 o1 o2 o3 o4 : List ℕ} → Leaves names p t0 t1 t2 t3 t4 r o0 o1 o2 o3 o4
+    → names ≡ take 88 input → p ≡ drop 88 input → lent t0 t1 t2 t3 t4 ≡ lent_room → listed r o1 ≡ listing input
+unfolding listing
+listing-by input x n q l = rw (x.answer, x.invocations, n, q, l)
