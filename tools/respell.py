@@ -2,7 +2,8 @@
 """Brings the names of definitions, lemmas, constructors and fields to today's spelling, once, after the kit's port.py: run it at the top of the repository.
 
 Words are in snake case; a dash joins the parts of a lemma's name alone; a prime is an apostrophe; no name has a middle dot. Names of the code, of modules and of types
-stay. With --list it prints the pairs of names and writes nothing. A new name that a file has already is told, and nothing is written.
+stay. With --list it prints the pairs of names and writes nothing. Where a file has a new name already, beside the old one, that is told on standard error: it is
+to be looked at by eye.
 """
 
 import pathlib
@@ -57,7 +58,7 @@ def respelled(name, kinds):
         return TOLD[name]
     parts = name.replace("′", "'").split("-")
     parts = [part if part[:1].isupper() else CAMEL.sub(lambda m: "_" + m[1].lower(), part) for part in parts]
-    return ("_" if kinds & {"definition", "member"} and name[0] not in "-" else "-").join(parts)
+    return ("_" if kinds & {"definition", "member"} else "-").join(parts)
 
 
 def turned(text, pairs):
@@ -71,9 +72,9 @@ def outside_strings(text, pairs):
 
 def main(words):
     names = declared()
-    pairs = {name: respelled(name, kinds) for name, kinds in names.items()}
-    pairs = {old: new for old, new in pairs.items() if old != new and not old[0].isupper() or "-" in old and old.isupper()}
-    pairs = {old: new for old, new in pairs.items() if old != new}
+    # Of names that begin with a capital only those of constants, which have dashes: the others are types.
+    names = {name: kinds for name, kinds in names.items() if not name[0].isupper() or "-" in name and name.isupper()}
+    pairs = {name: respelled(name, kinds) for name, kinds in names.items() if respelled(name, kinds) != name}
     together = []
     done = {}
     for path in FILES:
@@ -82,11 +83,9 @@ def main(words):
         text = re.sub(r"\b(?:Listing|Tree)·(\w+)", r"\1", text)
         text = text.replace("Option·elim", "Option-elim")
         text = turned(text, TOLD_IN.get(str(path), {}))
-        here = {old: new for old, new in pairs.items() if old in text}
         there = set(WORD.findall(text))
-        for old, new in here.items():
-            if old in there and new in there and path.suffix == ".antt":
-                together.append(f"{path}: {old} and {new}")
+        if path.suffix == ".antt":
+            together += [f"{path}: {old} and {new}" for old, new in pairs.items() if old in there and new in there]
         done[path] = outside_strings(text, pairs) if path.suffix == ".rt" else turned(text, pairs)
     if words == ["--list"]:
         for old, new in sorted(pairs.items()):
