@@ -3,6 +3,7 @@
 use Rattle.std.specs.Prelude.{ℕ, zero, suc, ◌+◌, List, get_or, take, drop}
 use Rattle.std.proofs.Math.Option.{Option, none, some}
 use Rattle.wire.specs.Le.{le}
+use Rattle.pack.specs.declared.position.Place.{Place}
 
 -- one instruction as it stands in a pack: the index of its program's key, the indexes of its accounts' keys, its data
 pub record Instruction : Type 0 where
@@ -38,3 +39,15 @@ lowered (suc k) = some k
 -- the position that three arrays hold at a place
 unfoldable pub position_at : List ℕ → List ℕ → List ℕ → ℕ → Position
 position_at outer inner height i = record { outer = get_or outer i 0; inner = lowered (get_or inner i 0); height = lowered (get_or height i 0) }
+
+-- the position that a place of an array stands for
+unfoldable pub position_of : Place → Position
+position_of p = record { outer = p.outer; inner = lowered p.inner; height = lowered p.height }
+
+-- the place that an array is full of before it is written
+unfoldable pub blank_place : Place
+blank_place = record { outer = 0; inner = 0; height = 0 }
+
+-- the position that an array holds at an index
+unfoldable pub position_in_places : List Place → ℕ → Position
+position_in_places places i = position_of (get_or places i blank_place)

@@ -12,11 +12,13 @@ ghost use Rattle.pack.specs.Verdict.{verdict, refusal_number, place_of};
 mod chain;
 pub mod flat;
 pub mod item;
+pub mod position;
 pub mod trailer;
 pub mod whole;
 
 pub use flat::{Flat, flatten};
 pub use item::{accounts, data, program};
+pub use position::Place;
 pub use trailer::section;
 use whole::Count;
 
