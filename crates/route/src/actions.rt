@@ -63,8 +63,7 @@ pub(crate) fn put_rows(
 {
     let keys = pack::section(pack, 0);
     let mut k = 0;
-    let mut i = 0;
-    while i < n {
+    for i in 0..n {
         let x = Candidate {
             program: ids::of_number(programs[i]),
             at: wide(at[i]),
@@ -73,7 +72,6 @@ pub(crate) fn put_rows(
         };
         let r = put_one(keys, pack, mints, x, out);
         k += wide(r as u32);
-        i += 1;
     }
     k
 }

@@ -13,26 +13,22 @@ use ids::Id;
 pub(crate) const WIDTH: usize = 28;
 
 // The bits that a program's case gives: 4 where a route passes over it, 8 where it is resolved.
+#[tactic(auto, unfolding(crate::specs::Program::program_bits))]
 fn program_bits(id: Id) -> u8
     ensures { result ≡ program_bits id }
 {
     match id {
-        Id::SplToken => 12,
-        Id::Token2022 => 12,
-        Id::WrappedSol => 8,
-        Id::ComputeBudget => 12,
-        Id::AssociatedToken => 12,
-        Id::Memo => 12,
-        Id::PumpFun => 8,
-        Id::LaunchLab => 8,
-        Id::PumpSwap => 8,
-        Id::Clmm => 8,
-        Id::Cpmm => 8,
-        Id::AmmV4 => 8,
-        Id::Orca => 8,
-        Id::Dlmm => 8,
-        Id::System => 12,
-        Id::Other => 8,
+        Id::SplToken | Id::Token2022 | Id::ComputeBudget | Id::AssociatedToken | Id::Memo | Id::System => 12,
+        Id::WrappedSol
+        | Id::PumpFun
+        | Id::LaunchLab
+        | Id::PumpSwap
+        | Id::Clmm
+        | Id::Cpmm
+        | Id::AmmV4
+        | Id::Orca
+        | Id::Dlmm
+        | Id::Other => 8,
         Id::Unresolved => 0,
     }
 }
@@ -79,35 +75,19 @@ fn put_row(
 }
 
 // The bits of what an invocation has itself: reason 0 is a transfer.
+#[tactic(auto, unfolding(crate::specs::Arrays::own_bits))]
 fn own_bits(reason: u8, leg: u32) -> u8
     ensures { result ≡ own_bits reason leg }
 {
-    if leg == 0 {
-        if reason == 0 {
-            return 32;
-        }
-        return 0;
-    }
-    if reason == 0 {
-        return 48;
-    }
-    16
+    u8::from(reason == 0) * 32 + u8::from(leg != 0) * 16
 }
 
 // What an invocation has itself, for those around it: 1 a transfer, 2 a leg.
+#[tactic(auto, unfolding(crate::specs::Arrays::own_for))]
 fn own_for(reason: u8, leg: u32) -> u8
     ensures { result ≡ own_for reason leg }
 {
-    if reason == 0 {
-        if leg == 0 {
-            return 1;
-        }
-        return 3;
-    }
-    if leg == 0 {
-        return 0;
-    }
-    2
+    u8::from(reason == 0) + u8::from(leg != 0) * 2
 }
 
 // The same for n invocations.
@@ -115,10 +95,8 @@ fn put_own(n: usize, reasons: &[u8; 1024], leg: &[u32; 1024], own: &mut [u8; 102
     requires { n ≤ 1024 }
     ensures { own.new ≡ sets own.old 0 (owns_of reasons.now leg.now n) }
 {
-    let mut i = 0;
-    while i < n {
+    for i in 0..n {
         own[i] = own_for(reasons[i], leg[i]);
-        i += 1;
     }
 }
 
@@ -173,8 +151,7 @@ pub(crate) fn put_rows(
         &mut inside,
         &mut parents,
     );
-    let mut i = 0;
-    while i < n {
+    for i in 0..n {
         let b = bits(programs, &inside, reasons, leg, i);
         put_row(
             out,
@@ -188,7 +165,6 @@ pub(crate) fn put_rows(
             parents[i],
             reasons[i],
         );
-        i += 1;
     }
     tests
 }

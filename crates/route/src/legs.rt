@@ -95,8 +95,7 @@ pub(crate) fn put_rows<'a>(
     let keys = pack::section(pack, 0);
     let pools = pack::section(pack, 4);
     let mut k = 0;
-    let mut i = 0;
-    while i < n {
+    for i in 0..n {
         let x = Candidate {
             program: ids::of_number(programs[i]),
             at: wide(at[i]),
@@ -106,7 +105,6 @@ pub(crate) fn put_rows<'a>(
         let r = put_one(names, keys, pack, pools, mints, x, out);
         leg[i] = number(r, k);
         k += wide(r as u32);
-        i += 1;
     }
     k
 }

@@ -12,7 +12,6 @@ pub loop-i-init : goal.loop-i-init
 loop-i-init c =
     let a = c.args in (
       omega arith,
-      omega arith,
       refl,
       fills-none a.mints.now a.pack.now a.at.now (action_rows (section_of a.pack.now 0)) action_width a.out.now,
     )
@@ -33,17 +32,16 @@ loop-i-preserved c =
     let id = c.of_number.result in
     let one : Puts a.mints.now (section_of a.pack.now 0) a.pack.now f action_width (candidate a.at.now id l.i l.k) put.result l.out put.new.out =
     rw (c.section-keys.ensures, c.wide.ensures) at put.ensures in (
-      omega arith,
       omega (arith, c.wide-k.ensures, one.few),
-      put.auto.out ∙ l.invariant.2,
-      rw c.wide-k.ensures (fills-more a.mints.now a.pack.now a.at.now f id action_width l.i l.k put.result a.out.now l.out _ l.invariant.3 one),
+      put.auto.out ∙ l.invariant.1,
+      rw c.wide-k.ensures (fills-more a.mints.now a.pack.now a.at.now f id action_width l.i l.k put.result a.out.now l.out _ l.invariant.2 one),
     )
 
 pub shape_of-out : goal.shape_of-out
-shape_of-out c = c.loop-i.invariant.2
+shape_of-out c = c.loop-i.invariant.1
 
 pub returns : goal.returns
 returns c =
     let l = c.loop-i in
     let e : l.i ≡ c.args.n = omega arith in
-    rw e at l.invariant.3
+    rw e at l.invariant.2

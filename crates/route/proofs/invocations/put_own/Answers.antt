@@ -8,17 +8,17 @@ use Rattle.route.proofs.invocations.put_own.Goals as goal
 
 pub loop-i-init : goal.loop-i-init
 unfolding tab
-loop-i-init c = (omega arith, refl)
+loop-i-init c = refl
 
 pub loop-i-preserved : goal.loop-i-preserved
 unfolding own_at
 loop-i-preserved c =
     let l = c.loop-i in
     let a = c.args in
-    (omega arith, rw c.own_for.ensures (array-more (own_at a.reasons.now a.leg.now) l.i a.own.now l.own l.invariant.1))
+    rw c.own_for.ensures (array-more (own_at a.reasons.now a.leg.now) l.i a.own.now l.own l.invariant)
 
 pub returns : goal.returns
 returns c =
     let l = c.loop-i in
     let e : l.i ≡ c.args.n = omega arith in
-    rw e at l.invariant.1
+    rw e at l.invariant

@@ -7,7 +7,4 @@ use mathlib.Core.Path.{◌≡◌}
 use Rattle.route.proofs.invocations.put_own.Given as goal
 
 abbrev pub invariant-loop-i : goal.invariant-loop-i
-invariant-loop-i l = (l.i ≤ l.n) × (l.own ≡ sets l.initial.own 0 (tab (own_at l.reasons l.leg) 0 l.i))
-
-abbrev pub decreases-loop-i : goal.decreases-loop-i
-decreases-loop-i l = l.n - l.i
+invariant-loop-i l = l.own ≡ sets l.initial.own 0 (tab (own_at l.reasons l.leg) 0 l.i)

@@ -21,7 +21,7 @@ put_own-requires c = c.requires
 
 pub loop-i-init : goal.loop-i-init
 unfolding tab placed
-loop-i-init c = (omega arith, refl, refl)
+loop-i-init c = (refl, refl)
 
 pub bits-b-requires : goal.bits-b-requires
 bits-b-requires c = (omega arith, inside-le c.subtrees-tests.ensures c.loop-i.i)
@@ -38,18 +38,17 @@ loop-i-preserved c =
     let ps = positions a.outer.now a.inner.now a.height.now a.n in
     let blocks = blocked a.outer.now a.inner.now a.height.now a.n c.requires c.subtrees-tests.ensures in
     let put = c.put_row in (
-      omega arith,
-      put.auto.out ∙ l.invariant.1,
-      placed-more invocation_width (row_at ps a.programs.now a.reasons.now a.leg.now) l.i a.out.now l.out _ l.invariant.2
+      put.auto.out ∙ l.invariant.0,
+      placed-more invocation_width (row_at ps a.programs.now a.reasons.now a.leg.now) l.i a.out.now l.out _ l.invariant.1
           (put.ensures ∙ rw (c.bits-b.ensures, ← (row_by a.n _ a.outer.now a.inner.now a.height.now a.programs.now a.reasons.now a.leg.now _ _ _ _ c.requires c.put_own.ensures blocks l.i (omega arith)))),
     )
 
 pub shape_of-out : goal.shape_of-out
-shape_of-out c = c.loop-i.invariant.1
+shape_of-out c = c.loop-i.invariant.0
 
 pub returns : goal.returns
 returns c =
     let l = c.loop-i in
     let a = c.args in
     let e : l.i ≡ length (positions a.outer.now a.inner.now a.height.now a.n) = omega (arith, positions-length a.outer.now a.inner.now a.height.now a.n) in
-    record { tests = (blocked a.outer.now a.inner.now a.height.now a.n c.requires c.subtrees-tests.ensures).tests; rows = l.invariant.2 ∙ rw e }
+    record { tests = (blocked a.outer.now a.inner.now a.height.now a.n c.requires c.subtrees-tests.ensures).tests; rows = l.invariant.1 ∙ rw e }

@@ -12,7 +12,6 @@ pub loop-i-init : goal.loop-i-init
 loop-i-init c =
     let a = c.args in (
       omega arith,
-      omega arith,
       refl,
       fills-none a.mints.now a.pack.now a.at.now (leg_rows_in a.names.now a.pack.now) leg_width a.out.now,
       numbers-none a.mints.now a.pack.now a.at.now (leg_rows_in a.names.now a.pack.now) a.leg.now,
@@ -37,18 +36,17 @@ loop-i-preserved c =
     let id = c.of_number.result in
     let one : Puts a.mints.now (section_of a.pack.now 0) a.pack.now f leg_width (candidate a.at.now id l.i l.k) put.result l.out put.new.out =
     rw (c.section-keys.ensures, c.section-pools.ensures, c.wide.ensures) at put.ensures in (
-      omega arith,
       omega (arith, c.wide-k.ensures, one.few),
-      put.auto.out ∙ l.invariant.2,
-      rw c.wide-k.ensures (fills-more a.mints.now a.pack.now a.at.now f id leg_width l.i l.k put.result a.out.now l.out _ l.invariant.3 one),
-      rw c.number.ensures (numbers_more a.mints.now a.pack.now a.at.now f id leg_width l.i l.k put.result a.out.now l.out _ a.leg.now l.leg l.invariant.4 l.invariant.3 one),
+      put.auto.out ∙ l.invariant.1,
+      rw c.wide-k.ensures (fills-more a.mints.now a.pack.now a.at.now f id leg_width l.i l.k put.result a.out.now l.out _ l.invariant.2 one),
+      rw c.number.ensures (numbers_more a.mints.now a.pack.now a.at.now f id leg_width l.i l.k put.result a.out.now l.out _ a.leg.now l.leg l.invariant.3 l.invariant.2 one),
     )
 
 pub shape_of-out : goal.shape_of-out
-shape_of-out c = c.loop-i.invariant.2
+shape_of-out c = c.loop-i.invariant.1
 
 pub returns : goal.returns
 returns c =
     let l = c.loop-i in
     let e : l.i ≡ c.args.n = omega arith in
-    record { fills = rw e at l.invariant.3; numbers = rw e at l.invariant.4 }
+    record { fills = rw e at l.invariant.2; numbers = rw e at l.invariant.3 }

@@ -8,7 +8,4 @@ use mathlib.Core.Path.{◌≡◌}
 use Rattle.route.proofs.legs.put_rows.Given as goal
 
 abbrev pub invariant-loop-i : goal.invariant-loop-i
-invariant-loop-i l = (l.i ≤ l.n) × (l.k ≤ l.i) × (length l.out ≡ length l.initial.out) × Fills l.mints l.pack l.at (leg_rows_in l.names l.pack) leg_width l.i l.k l.initial.out l.out × Numbers l.mints l.pack l.at (leg_rows_in l.names l.pack) l.i l.initial.leg l.leg
-
-abbrev pub decreases-loop-i : goal.decreases-loop-i
-decreases-loop-i l = l.n - l.i
+invariant-loop-i l = (l.k ≤ l.i) × (length l.out ≡ length l.initial.out) × Fills l.mints l.pack l.at (leg_rows_in l.names l.pack) leg_width l.i l.k l.initial.out l.out × Numbers l.mints l.pack l.at (leg_rows_in l.names l.pack) l.i l.initial.leg l.leg

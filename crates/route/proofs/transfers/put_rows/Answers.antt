@@ -16,7 +16,6 @@ unfolding tab
 loop-i-init c =
     let a = c.args in (
       omega arith,
-      omega arith,
       refl,
       fills-none a.mints.now a.pack.now a.at.now (transfer_rows (section_of a.pack.now 0)) transfer_width a.out.now,
       refl,
@@ -41,18 +40,17 @@ loop-i-preserved c =
     let one : Puts a.mints.now (section_of a.pack.now 0) a.pack.now f transfer_width (candidate a.at.now id l.i l.k) (transfer_count put.result) l.out put.new.out =
     rw (keys, offset) at put.ensures.puts in
     let told : put.result ≡ reason_in (section_of a.pack.now 0) (item_at a.pack.now a.at.now l.i) = rw (keys, offset) at put.ensures.value in (
-      omega arith,
       omega (arith, c.rows-k.ensures, one.few),
-      put.auto.out ∙ l.invariant.2,
-      rw c.rows-k.ensures (fills-more a.mints.now a.pack.now a.at.now f id transfer_width l.i l.k (transfer_count put.result) a.out.now l.out _ l.invariant.3 one),
-      rw told (array-more (λ i. reason_in (section_of a.pack.now 0) (item_at a.pack.now a.at.now i)) l.i a.reasons.now l.reasons l.invariant.4),
+      put.auto.out ∙ l.invariant.1,
+      rw c.rows-k.ensures (fills-more a.mints.now a.pack.now a.at.now f id transfer_width l.i l.k (transfer_count put.result) a.out.now l.out _ l.invariant.2 one),
+      rw told (array-more (λ i. reason_in (section_of a.pack.now 0) (item_at a.pack.now a.at.now i)) l.i a.reasons.now l.reasons l.invariant.3),
     )
 
 pub shape_of-out : goal.shape_of-out
-shape_of-out c = c.loop-i.invariant.2
+shape_of-out c = c.loop-i.invariant.1
 
 pub returns : goal.returns
 returns c =
     let l = c.loop-i in
     let e : l.i ≡ c.args.n = omega arith in
-    record { fills = rw e at l.invariant.3; reasons_after = rw e at l.invariant.4 }
+    record { fills = rw e at l.invariant.2; reasons_after = rw e at l.invariant.3 }

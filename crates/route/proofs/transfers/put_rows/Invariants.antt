@@ -10,7 +10,4 @@ use mathlib.Core.Path.{◌≡◌}
 use Rattle.route.proofs.transfers.put_rows.Given as goal
 
 abbrev pub invariant-loop-i : goal.invariant-loop-i
-invariant-loop-i l = (l.i ≤ l.n) × (l.k ≤ l.i) × (length l.out ≡ length l.initial.out) × Fills l.mints l.pack l.at (transfer_rows (section_of l.pack 0)) transfer_width l.i l.k l.initial.out l.out × (l.reasons ≡ sets l.initial.reasons 0 (reasons_of l.pack l.at l.i))
-
-abbrev pub decreases-loop-i : goal.decreases-loop-i
-decreases-loop-i l = l.n - l.i
+invariant-loop-i l = (l.k ≤ l.i) × (length l.out ≡ length l.initial.out) × Fills l.mints l.pack l.at (transfer_rows (section_of l.pack 0)) transfer_width l.i l.k l.initial.out l.out × (l.reasons ≡ sets l.initial.reasons 0 (reasons_of l.pack l.at l.i))
