@@ -27,8 +27,8 @@ fn count(native: Native) -> u8
 }
 
 // Writes the row of a candidate, if it is an action. Answers how many rows that is.
-fn put_one(keys: &[u8], pack: &[u8], mints: &[u8], x: Candidate, out: &mut [u8]) -> u8
-    requires { (length mints.now ≡ 8192) × (x.row < 1024) × (x.program ≡ program_of keys.now (instruction_at pack.now x.at)) }
+fn put_one(keys: &[u8], pack: &[u8], mints: &[u8; 8192], x: Candidate, out: &mut [u8]) -> u8
+    requires { (x.row < 1024) × (x.program ≡ program_of keys.now (instruction_at pack.now x.at)) }
     ensures { Puts mints.now keys.now pack.now (action_rows keys.now) action_width x result
         out.old out.new }
 {
@@ -54,10 +54,10 @@ pub(crate) fn put_rows(
     n: usize,
     at: &[u32; 1024],
     programs: &[u8; 1024],
-    mints: &[u8],
+    mints: &[u8; 8192],
     out: &mut [u8],
 ) -> usize
-    requires { (n ≤ 1024) × (length mints.now ≡ 8192) × Programs (section_of pack.now 0) (item_at pack.now at.now) n programs.now }
+    requires { (n ≤ 1024) × Programs (section_of pack.now 0) (item_at pack.now at.now) n programs.now }
     ensures { Fills mints.now pack.now at.now (action_rows (section_of pack.now 0)) action_width n result
         out.old out.new }
 {

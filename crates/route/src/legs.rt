@@ -21,11 +21,11 @@ fn put_one<'a>(
     keys: &'a [u8],
     pack: &[u8],
     pools: &[u8],
-    mints: &'a [u8],
+    mints: &'a [u8; 8192],
     x: Candidate,
     out: &mut [u8],
 ) -> u8
-    requires { (length mints.now ≡ 8192) × (x.row < 1024) × (x.program ≡ program_of keys.now (instruction_at pack.now x.at)) }
+    requires { (x.row < 1024) × (x.program ≡ program_of keys.now (instruction_at pack.now x.at)) }
     ensures { Puts mints.now keys.now pack.now
         (leg_rows names.now keys.now (pools_in pools.now)) leg_width x result
         out.old out.new }
@@ -82,11 +82,11 @@ pub(crate) fn put_rows<'a>(
     n: usize,
     at: &[u32; 1024],
     programs: &[u8; 1024],
-    mints: &'a [u8],
+    mints: &'a [u8; 8192],
     out: &mut [u8],
     leg: &mut [u32; 1024],
 ) -> usize
-    requires { (n ≤ 1024) × (length mints.now ≡ 8192) × Programs (section_of pack.now 0) (item_at pack.now at.now) n programs.now }
+    requires { (n ≤ 1024) × Programs (section_of pack.now 0) (item_at pack.now at.now) n programs.now }
     ensures fills { Fills mints.now pack.now at.now (leg_rows_in names.now pack.now) leg_width n result
         out.old out.new }
     ensures numbers { Numbers mints.now pack.now at.now (leg_rows_in names.now pack.now) n

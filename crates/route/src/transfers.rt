@@ -15,8 +15,7 @@ use crate::width;
 use token::Moved;
 
 // The final mint of a key index: 32 bytes, zero where it has none.
-pub(crate) fn mint(mints: &[u8], index: u8) -> &[u8]
-    requires { length mints.now ≡ 8192 }
+pub(crate) fn mint(mints: &[u8; 8192], index: u8) -> &[u8]
     ensures { result.now ≡ known_mint mints.now index }
 {
     let at = index as usize * 32;
@@ -31,8 +30,8 @@ fn rows(reason: u8) -> usize
 }
 
 // Writes the row of a candidate, if it gives a transfer. Answers why it gives none, or 0.
-fn put_one(keys: &[u8], pack: &[u8], mints: &[u8], x: Candidate, out: &mut [u8]) -> u8
-    requires { (length mints.now ≡ 8192) × (x.row < 1024) × (x.program ≡ program_of keys.now (instruction_at pack.now x.at)) }
+fn put_one(keys: &[u8], pack: &[u8], mints: &[u8; 8192], x: Candidate, out: &mut [u8]) -> u8
+    requires { (x.row < 1024) × (x.program ≡ program_of keys.now (instruction_at pack.now x.at)) }
     ensures value { result ≡ reason_in keys.now (instruction_at pack.now x.at) }
     ensures puts { Puts mints.now keys.now pack.now (transfer_rows keys.now) transfer_width x (transfer_count result)
         out.old out.new }
@@ -61,11 +60,11 @@ pub(crate) fn put_rows(
     n: usize,
     at: &[u32; 1024],
     programs: &[u8; 1024],
-    mints: &[u8],
+    mints: &[u8; 8192],
     out: &mut [u8],
     reasons: &mut [u8; 1024],
 ) -> usize
-    requires { (n ≤ 1024) × (length mints.now ≡ 8192) × Programs (section_of pack.now 0) (item_at pack.now at.now) n programs.now }
+    requires { (n ≤ 1024) × Programs (section_of pack.now 0) (item_at pack.now at.now) n programs.now }
     ensures fills { Fills mints.now pack.now at.now (transfer_rows (section_of pack.now 0)) transfer_width n result
         out.old out.new }
     ensures reasons_after { reasons.new ≡ sets reasons.old 0 (reasons_of pack.now at.now n) }

@@ -30,7 +30,7 @@ returns-then-not-acts c =
     let v = instruction_at a.pack.now a.x.at in
     let ks = a.keys.now in
     let e : (is_token (program_of ks v) || is_system (program_of ks v)) ≡ false =
-    ap (λ (i : Id). (is_token i || is_system i)) (sym c.requires.2) ∙ sym c.acts.ensures ∙ c.if-not-acts.true in
+    ap (λ (i : Id). (is_token i || is_system i)) (sym c.requires.1) ∙ sym c.acts.ensures ∙ c.if-not-acts.true in
     record {
       few = omega arith;
       counted = λ table h. rw (idle (key_of ks) (key_count ks) (program_of ks v) v.accounts v.bytes (mint_in table) e);
@@ -44,7 +44,7 @@ returns-then-not-sized c =
     let v = instruction_at a.pack.now a.x.at in
     let ks = a.keys.now in
     let e : sized_of (program_of ks v) (length v.bytes) ≡ false =
-    rw (← c.requires.2, ← c.data-data.ensures) (sym c.sized.ensures ∙ c.if-not-sized.true) in
+    rw (← c.requires.1, ← c.data-data.ensures) (sym c.sized.ensures ∙ c.if-not-sized.true) in
     record {
       few = omega arith;
       counted = λ table h. rw (unasked (key_of ks) (key_count ks) (program_of ks v) v.accounts v.bytes (mint_in table) e);
@@ -63,7 +63,7 @@ formed c =
     let a = c.accounts-accounts in
     let d = c.data-data in
     c.form-asked.ensures
-    ∙ ap (λ (i : Id). form_of i a.result.now d.result.now) c.requires.2
+    ∙ ap (λ (i : Id). form_of i a.result.now d.result.now) c.requires.1
     ∙ ap (λ (l : List ℕ). form_of (program_of (keys c) (item c)) l d.result.now) a.ensures
     ∙ ap (λ (l : List ℕ). form_of (program_of (keys c) (item c)) (item c).accounts l) d.ensures
 

@@ -30,11 +30,11 @@ returns-then-not-trades c =
     let ks = a.keys.now in
     let pools = pools_in a.pools.now in
     let e : trades (program_of ks v) ≡ false =
-    rw (← c.requires.2) (sym c.trades.ensures ∙ c.if-not-trades.true) in
+    rw (← c.requires.1) (sym c.trades.ensures ∙ c.if-not-trades.true) in
     record { few = omega arith; counted = λ table h. rw (passed_over a.names.now ks pools table v e); rows = λ table h. rw (passed_over a.names.now ks pools table v e) }
 
 pub overflow_mul-x : goal.overflow_mul-x
-overflow_mul-x c = omega (arith, c.requires.1)
+overflow_mul-x c = omega (arith, c.requires.0)
 
 pub returns-in-Nothing : goal.returns-in-Nothing
 unfolding leg_rows placed
@@ -44,7 +44,7 @@ returns-in-Nothing c =
     let ks = a.keys.now in
     let pools = pools_in a.pools.now in
     let e : leg_in_numbers a.names.now (key_of ks) (program_of ks v) v.accounts v.bytes ≡ Nothing =
-    sym (c.leg-found.ensures ∙ rw (c.accounts.ensures, c.«data».ensures, c.requires.2)) ∙ c.in-Nothing.is in
+    sym (c.leg-found.ensures ∙ rw (c.accounts.ensures, c.«data».ensures, c.requires.1)) ∙ c.in-Nothing.is in
     record {
       few = omega arith;
       counted = λ table h. rw (leg-swap a.names.now ks pools table v, no_leg a.names.now (key_of ks) (program_of ks v) v.accounts v.bytes (mint_in table) pools e);
@@ -71,7 +71,7 @@ returns-in-Leg c =
     let s = c.in-Leg.leg in
     let known = c.in-Leg.known_told-1-own.given in
     let e : leg_in_numbers a.names.now (key_of ks) (program_of ks v) v.accounts v.bytes ≡ Leg s =
-    sym (c.leg-found.ensures ∙ rw (c.accounts.ensures, c.«data».ensures, c.requires.2)) ∙ c.in-Leg.is in
+    sym (c.leg-found.ensures ∙ rw (c.accounts.ensures, c.«data».ensures, c.requires.1)) ∙ c.in-Leg.is in
     let small : s.input < 256 = omega (arith, known) in
     let small2 : s.output < 256 = omega (arith, known) in
     record {

@@ -19,7 +19,7 @@ loop-i-init c =
 
 pub put_one-r-requires : goal.put_one-r-requires
 put_one-r-requires c =
-    (c.requires.1, omega arith, rw (c.section-keys.ensures, c.wide.ensures) (c.of_number.ensures ∙ c.requires.2 c.loop-i.i (omega arith)))
+    (omega arith, rw (c.section-keys.ensures, c.wide.ensures) (c.of_number.ensures ∙ c.requires.1 c.loop-i.i (omega arith)))
 
 pub number-requires : goal.number-requires
 number-requires c = (c.put_one-r.ensures.few, omega arith)

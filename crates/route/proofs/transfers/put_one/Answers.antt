@@ -28,7 +28,7 @@ returns-then-not-token_program c =
     let v = instruction_at a.pack.now a.x.at in
     let program = c.token_program in
     let e : is_token (program_of a.keys.now v) ≡ false =
-    rw (← c.requires.2) (sym program.ensures ∙ c.if-not-token_program.true) in
+    rw (← c.requires.1) (sym program.ensures ∙ c.if-not-token_program.true) in
     record {
       value = c.reason.ensures ∙ sym (no-token a.keys.now v e);
       puts =
@@ -48,7 +48,7 @@ read : {A : Type 0} (f : Id → List ℕ → List ℕ → A) (c : After-reason-2
 read f c =
     let a = c.accounts in
     let d = c.«data» in
-    ap (λ (i : Id). f i a.result.now d.result.now) c.requires.2
+    ap (λ (i : Id). f i a.result.now d.result.now) c.requires.1
     ∙ ap (λ (l : List ℕ). f (program_of (keys c) (item c)) l d.result.now) a.ensures
     ∙ ap (f (program_of (keys c) (item c)) (item c).accounts) d.ensures
 
