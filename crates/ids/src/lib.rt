@@ -10,7 +10,7 @@ ghost use Rattle.wire.specs.Same.{same};
 ghost use Rattle.ids.specs.Ids.{ids, id_at, is_wrapped_sol};
 ghost use Rattle.ids.specs.Keys.{key_at, key_of, key_count};
 ghost use Rattle.ids.specs.Mints.{is_mint, mint_of, mint_field};
-ghost use Rattle.ids.specs.Which.{of_number, row_by_fifth, row_from};
+ghost use Rattle.ids.specs.Which.{of_number, row_by_fifth, which};
 
 pub mod programs;
 
@@ -120,73 +120,41 @@ pub fn is_wrapped_sol(mint: &[u8]) -> bool
     is_row(&table, 2, mint)
 }
 
-// The case of a number.
-pub fn of_number(n: u8) -> Id
-    ensures { result ≡ of_number n }
-{
-    match n {
-        0 => Id::SplToken,
-        1 => Id::Token2022,
-        2 => Id::WrappedSol,
-        3 => Id::ComputeBudget,
-        4 => Id::AssociatedToken,
-        5 => Id::Memo,
-        6 => Id::PumpFun,
-        7 => Id::LaunchLab,
-        8 => Id::PumpSwap,
-        9 => Id::Clmm,
-        10 => Id::Cpmm,
-        11 => Id::AmmV4,
-        12 => Id::Orca,
-        13 => Id::Dlmm,
-        14 => Id::System,
-        15 => Id::Other,
-        _ => Id::Unresolved,
-    }
-}
-
-// The one row that a key can be, by its fifth byte; 14 where that is zero, since no id has a zero there, and 15 where it is in no row.
-fn candidate(fifth: u8) -> u8
-    ensures { result ≡ row_by_fifth fifth 14 0 }
+// The one program that a key can be, by its fifth byte: System where that is zero, since no id has a zero there, and another where it is in no row.
+#[tactic(auto, unfolding(crate::specs::Which::row_by_fifth, crate::specs::Which::of_number, crate::specs::Ids::ids))]
+fn candidate(fifth: u8) -> Id
+    ensures { result ≡ of_number (row_by_fifth fifth 14 0) }
 {
     match fifth {
-        0xd7 => 0,
-        0xee => 1,
-        0xfe => 2,
-        0xe5 => 3,
-        0x4e => 4,
-        0x99 => 5,
-        0x93 => 6,
-        0x4d => 7,
-        0x82 => 8,
-        0x04 => 9,
-        0x4f => 10,
-        0x36 => 11,
-        0x8e => 12,
-        0xbc => 13,
-        0x00 => 14,
-        _ => 15,
+        0xd7 => Id::SplToken,
+        0xee => Id::Token2022,
+        0xfe => Id::WrappedSol,
+        0xe5 => Id::ComputeBudget,
+        0x4e => Id::AssociatedToken,
+        0x99 => Id::Memo,
+        0x93 => Id::PumpFun,
+        0x4d => Id::LaunchLab,
+        0x82 => Id::PumpSwap,
+        0x04 => Id::Clmm,
+        0x4f => Id::Cpmm,
+        0x36 => Id::AmmV4,
+        0x8e => Id::Orca,
+        0xbc => Id::Dlmm,
+        0x00 => Id::System,
+        _ => Id::Other,
     }
 }
 
-// The row of a key in the table, or 14 for the zero key and 15 for any other.
-fn row_in(table: &[u8], key: &[u8]) -> u8
+// Which program a key is: the one that it can be, or another.
+fn which(table: &[u8], key: &[u8]) -> Id
     requires { table.now ≡ ids }
-    ensures { result ≡ row_from key.now 14 0 }
+    ensures { result ≡ which key.now }
 {
-    let row = candidate(wire::byte(key, 4));
-    if row == 15 {
-        return 15;
-    }
-    if row == 14 {
-        let blank = [0u8; 32];
-        if wire::equal(key, &blank) {
-            return 14;
-        }
-        return 15;
-    }
-    if is_row(table, row as usize, key) {
-        return row;
-    }
-    15
+    let id = candidate(wire::byte(key, 4));
+    let same = match id {
+        Id::System => wire::equal(key, &[0u8; 32]),
+        Id::Other | Id::Unresolved => false,
+        _ => is_row(table, id as usize, key),
+    };
+    if same { id } else { Id::Other }
 }
