@@ -1,6 +1,5 @@
 // Which program each key is, found once for a pack: an invocation then looks its program up by index.
 ghost use Rattle.std.specs.Prelude.{◌≡◌, ◌<◌};
-ghost use Rattle.ids.specs.Ids.{ids};
 ghost use Rattle.ids.specs.Keys.{key_count};
 ghost use Rattle.ids.specs.Which.{program_at};
 ghost use Rattle.ids.specs.KeyPrograms.{key_programs, program_in};
@@ -8,13 +7,14 @@ ghost use Rattle.ids.specs.KeyPrograms.{key_programs, program_in};
 use crate::Id;
 
 // The program that the key of row i is.
-fn program_at(table: &[u8], keys: &[u8], i: usize) -> Id
-    requires { (table.now ≡ ids) × (i < key_count keys.now) }
+#[tactic(auto, unfolding(crate::specs::Which::program_at))]
+fn program_at(keys: &[u8], i: usize) -> Id
+    requires { i < key_count keys.now }
     ensures { result ≡ program_at keys.now i }
 {
     let at = i * 33;
     if keys[at] == 1 {
-        crate::which(table, &keys[at + 1..at + 33])
+        crate::which(&keys[at + 1..at + 33])
     } else {
         Id::Unresolved
     }
@@ -24,14 +24,14 @@ fn program_at(table: &[u8], keys: &[u8], i: usize) -> Id
 pub fn fill(keys: &[u8], programs: &mut [Id; 256])
     ensures { programs.new ≡ key_programs keys.now }
 {
-    let table = crate::IDS;
     *programs = [Id::Unresolved; 256];
     for i in 0..crate::key_count(keys).min(256) {
-        programs[i] = program_at(&table, keys, i);
+        programs[i] = program_at(keys, i);
     }
 }
 
 // The program that `fill` left for the key of row `index`; past the 256th it is not resolved.
+#[tactic(auto, unfolding(crate::specs::KeyPrograms::program_in))]
 pub fn program(programs: &[Id; 256], index: usize) -> Id
     ensures { result ≡ program_in programs.now index }
 {
