@@ -35,9 +35,5 @@ pub fn fill(keys: &[u8], programs: &mut [Id; 256])
 pub fn program(programs: &[Id; 256], index: usize) -> Id
     ensures { result ≡ program_in programs.now index }
 {
-    if index < 256 {
-        programs[index]
-    } else {
-        Id::Unresolved
-    }
+    programs.get(index).copied().unwrap_or(Id::Unresolved)
 }
