@@ -11,7 +11,8 @@ use lib.ListN.{length}
 use Rattle.wire.specs.Le.{le, le_bytes}
 use Rattle.wire.specs.Same.{same}
 use Rattle.wire.specs.Zeros.{zeros}
-use Rattle.pack.specs.declared.Verdict.TheVariants.{Mark}
+use Rattle.std.specs.Prelude.{Err}
+use Rattle.pack.specs.declared.Refusal.TheVariants.{Mark}
 use Rattle.pack.specs.Invocation.{instruction_at}
 use Rattle.pack.specs.Sections.{mark, marked, start_of, ordered, has_section, section_of}
 use Rattle.pack.specs.Items.{rows, rows_fill, keys_fill, item_end, outers_from, outers_fill, height_at, height_good, inners_end, inners_good, inners_from, group_end, group_good, group_at, groups_from, groups_fill}
@@ -97,10 +98,10 @@ unfolding cases right all_right verdict marked mark same start_of ordered has_se
 refusals = refl
 
 -- packs of every size that is not taken
-pub too_short : (p : List ℕ) → length p < 24 → verdict p ≡ Mark
+pub too_short : (p : List ℕ) → length p < 24 → verdict p ≡ Err Mark
 unfolding verdict marked
 too_short p h = rw (lt-leb 24 (length p) h)
 
-pub too_long : (p : List ℕ) → 61440 < length p → verdict p ≡ Mark
+pub too_long : (p : List ℕ) → 61440 < length p → verdict p ≡ Err Mark
 unfolding verdict marked
 too_long p h = rw (le-leb 24 (length p) (omega arith), lt-leb (length p) 61440 h)

@@ -14,7 +14,7 @@ use lib.Dec.{eqb}
 use lib.ListN.{length, get_or, drop, set, length-map, length-drop}
 use lib.Seq.{sets, drop-cons, drop-drop, get_or-drop, get_or-set_same, get_or-set_other}
 use Rattle.wire.specs.Le.{le}
-use Rattle.wire.proofs.Sets.{sets-next}
+use Rattle.pack.proofs.Stores.{sets-next}
 use Rattle.pack.specs.Invocation.{Position}
 use Rattle.pack.specs.Items.{inners_from, count_at, group_at}
 use Rattle.pack.specs.Flatten.{inside}
@@ -120,7 +120,7 @@ nearer c d h k f = rw (ne_eqb c 0 (omega arith)) (go (eqb d 0) refl)
     go false e = let g = f (eqb-false d 0 e) in omega arith
 
 -- a run of invocations is written, and then another
-pub wrote-more : (f : Position × ℕ → ℕ) (l₀ l : List ℕ) (k r : ℕ) (xs ys : List (Position × ℕ)) → l ≡ sets l₀ k (map f xs) → r ≡ k + length xs
+pub wrote-more : {A : Type 0} (f : Position × ℕ → A) (l₀ l : List A) (k r : ℕ) (xs ys : List (Position × ℕ)) → l ≡ sets l₀ k (map f xs) → r ≡ k + length xs
     → sets l r (map f ys) ≡ sets l₀ k (map f (xs ++ ys))
 wrote-more f l₀ l k r xs ys e n =
     rw (e, map-append f xs ys) (sets-next l₀ k (map f xs) (map f ys) r (rw (length-map xs f) (sym n)))

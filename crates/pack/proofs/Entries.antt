@@ -9,22 +9,23 @@ use native.Mathlib.Nat.{zero-add}
 use native.Mathlib.Omega.{arith}
 use borrow.Author.Tests.{leb-true}
 use lib.Dec.{leb, eqb}
-use lib.ListN.{length, get_or, length-map, length-replicate}
+use lib.ListN.{length, get_or, replicate, length-map, length-replicate}
 use lib.Seq.{sets}
-use Rattle.wire.specs.Zeros.{zeros}
 use Rattle.wire.proofs.Below.{and_left, and_right}
-use Rattle.pack.specs.Invocation.{Position, Invocation, instruction_at, lowered, position_at}
+use Rattle.pack.specs.Invocation.{Position, Invocation, instruction_at, lowered, position_of, blank_place, position_in_places}
+use Rattle.pack.specs.declared.position.Place.{Place}
 use Rattle.pack.specs.Group.{Group}
 use Rattle.pack.specs.Sections.{start_of, section_of}
 use Rattle.pack.specs.Items.{item_end, outers_at, outers_whole, height_good, inners_good, inners_from, count_at, group_good, group_at, groups_at, groups_whole}
 use Rattle.pack.specs.View.{outer_in, groups_in, view_of}
 use Rattle.pack.specs.Flatten.{numbered, inside, outermost, flatten_from, invocation, flatten}
 use Rattle.pack.specs.Verdict.{refusal_number, verdict}
-use Rattle.pack.specs.Layout.{layout, spread_of, placed_at, raised, at_of, outer_of, inner_of, height_of, Flattened}
+use Rattle.pack.specs.Layout.{layout, spread_of, placed_at, raised, at_of, place_held, Flattened}
 use Rattle.pack.proofs.Parts.{at_map}
 use Rattle.pack.proofs.Slices.{slice, instruction-in}
 use Rattle.pack.proofs.Good.{passed, section-is}
-use Rattle.pack.proofs.Kept.{Each, outers-each, groups-each, laid-at}
+use Rattle.pack.proofs.Kept.{Each, outers-each, groups-each}
+use Rattle.pack.proofs.Stores.{laid-at}
 use Rattle.pack.proofs.Filled.{laid_out, spread-room}
 
 -- instructions seen through f
@@ -113,8 +114,13 @@ unfolding lowered raised
 lowered-raised none = refl
 lowered-raised (some k) = refl
 
+-- and a position
+position-held : (x : Position × ℕ) → position_of (place_held x) ≡ x.0
+unfolding position_of
+position-held x = rw (lowered-raised x.0.inner, lowered-raised x.0.height)
+
 -- what `flatten` leaves of a pack that no refusal meets
-module _ (p : List ℕ) (r : ℕ) (at outer inner height : List ℕ) (e : refusal_number (verdict p) ≡ 0) (w : Flattened p r at outer inner height) where
+module _ (p : List ℕ) (r : ℕ) (at : List ℕ) (places : List Place) (e : refusal_number (verdict p) ≡ 0) (w : Flattened p r at places) where
   few : length (layout p) ≤ 1024
   few =
       let s = section_of p 2 in
@@ -128,15 +134,15 @@ module _ (p : List ℕ) (r : ℕ) (at outer inner height : List ℕ) (e : refusa
   abbrev here : ℕ → Position × ℕ
   here i = get_or (layout p) i (outermost 0, 0)
 
-  holds : (f : Position × ℕ → ℕ) (l : List ℕ) → l ≡ sets (zeros 1024) 0 (map f (layout p)) → (i : ℕ) → i < length (layout p) → get_or l i 0 ≡ f (here i)
-  holds f l q i h =
+  holds : {A : Type 0} (f : Position × ℕ → A) (l : List A) (d : A) → l ≡ sets (replicate 1024 d) 0 (map f (layout p)) → (i : ℕ) → i < length (layout p) → get_or l i d ≡ f (here i)
+  holds f l d q i h =
       let m = length-map (layout p) f in
-      rw q (laid-at (zeros 1024) (map f (layout p)) i (omega (arith, few, length-replicate {A = ℕ} 1024 0)) (omega arith) ∙ at_map f (layout p) i (outermost 0, 0) 0 h)
+      rw q (laid-at (replicate 1024 d) (map f (layout p)) i d (omega (arith, few, length-replicate 1024 d)) (omega arith) ∙ at_map f (layout p) i (outermost 0, 0) d h)
 
-  -- and each of them, entry by entry: its position in three arrays, its instruction at the offset that the fourth holds
+  -- and each of them, entry by entry: its position in one array, its instruction at the offset that the other holds
   pub entry : (i : ℕ) → i < r → (d : Invocation)
-      → get_or (flatten (view_of p)) i d ≡ record { position = position_at outer inner height i; instruction = instruction_at p (get_or at i 0) }
-  unfolding position_at
+      → get_or (flatten (view_of p)) i d ≡ record { position = position_in_places places i; instruction = instruction_at p (get_or at i 0) }
+  unfolding position_in_places
   entry i h d =
       let k : i < length (layout p) = omega (arith, w.count) in
-      rw (layout_is p e, at_map (standing p) (layout p) i (outermost 0, 0) d k, holds at_of at w.ats i k, holds outer_of outer w.outers i k, holds inner_of inner w.inners i k, holds height_of height w.heights i k, lowered-raised (here i).0.inner, lowered-raised (here i).0.height)
+      rw (layout_is p e, at_map (standing p) (layout p) i (outermost 0, 0) d k, holds at_of at 0 w.ats i k, holds place_held places blank_place w.runs i k, position-held (here i))

@@ -9,7 +9,10 @@ use native.Mathlib.Omega.{arith}
 use borrow.Author.Tests.{eq-eqb, ne_eqb}
 use lib.ListN.{length, get_or, take, length-map}
 use lib.Seq.{sets}
+use Rattle.std.specs.Prelude.{Err}
 use Rattle.wire.specs.Le.{le}
+use Rattle.pack.specs.declared.Refusal.{Refusal}
+use Rattle.pack.specs.declared.Refusal.TheVariants.{Mark, Starts, Section, Keys, Balances, Invocations}
 use Rattle.pack.specs.Invocation.{instruction_at}
 use Rattle.pack.specs.Sections.{start_of, section_of}
 use Rattle.pack.specs.Items.{outers_at, outers_whole, group_good, group_at, groups_at, groups_whole}
@@ -22,7 +25,8 @@ use Rattle.pack.proofs.Counting.{all-length}
 use Rattle.pack.proofs.Sizes.{invocations-length}
 use Rattle.pack.proofs.Places.{group-inside}
 use Rattle.pack.proofs.Good.{passed, size_of, end-le, section-ends}
-use Rattle.pack.proofs.Kept.{Each, each_at, groups-each, kept-each, kept-few, kept-all, kept-given, laid, laid-at}
+use Rattle.pack.proofs.Kept.{Each, each_at, groups-each, kept-each, kept-few, kept-all, kept-given, laid}
+use Rattle.pack.proofs.Stores.{laid-at}
 
 module _ (p s g : List ℕ) (o : ℕ) (e : refusal_number (verdict p) ≡ 0) (is-s : s ≡ section_of p 2) (is-g : g ≡ section_of p 3) (is-o : o ≡ length (outers_at s)) where
   -- outer instructions, and the instructions of the groups that are kept
@@ -58,7 +62,7 @@ module _ (p s g : List ℕ) (o : ℕ) (e : refusal_number (verdict p) ≡ 0) (is
     kept-laid = rw (is-n, is-place) (laid z (kept_at g o) (omega (arith, groups-room.1)))
 
     kept-at : (k : ℕ) → k < n → get_or place k 0 ≡ get_or (kept_at g o) k 0
-    kept-at k h = rw is-place (laid-at z (kept_at g o) k (omega (arith, groups-room.1)) (omega arith))
+    kept-at k h = rw is-place (laid-at z (kept_at g o) k 0 (omega (arith, groups-room.1)) (omega arith))
 
     kept-is : (k : ℕ) → k < n → (group_good g (get_or (kept_at g o) k 0) ≡ true) × (le 4 g (get_or (kept_at g o) k 0) < o)
     kept-is k h = each_at (λ (x : ℕ). (group_good g x ≡ true) × (le 4 g x < o)) (kept_at g o) kept_good k (omega arith)
@@ -118,7 +122,16 @@ ready p outs s from base place next first e ch a b c d =
       chains = ch;
     })
 
--- a pack that is refused has none
-pub laid_none : (p : List ℕ) → (refusal_number (verdict p) ≡ 0 → ⊥) → layout p ≡ []
+-- every refusal has a number
+refused : (r : Refusal) → refusal_number (Err r) ≡ 0 → ⊥
+refused Mark e = omega arith
+refused Starts e = omega arith
+refused (Section k) e = omega arith
+refused Keys e = omega arith
+refused Balances e = omega arith
+refused Invocations e = omega arith
+
+-- so a pack that is refused has no invocations laid out
+pub laid_none : (p : List ℕ) (r : Refusal) → Err r ≡ verdict p → layout p ≡ []
 unfolding layout
-laid_none p h = rw (ne_eqb (refusal_number (verdict p)) 0 h)
+laid_none p r e = rw (← e, ne_eqb (refusal_number (Err r)) 0 (refused r))

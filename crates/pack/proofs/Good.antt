@@ -12,13 +12,13 @@ use lib.ListN.{length, take, drop, length-take, length-drop}
 use Rattle.wire.specs.Same.{same}
 use Rattle.wire.specs.Below.{all_below}
 use Rattle.wire.proofs.Below.{below_at, and_left, and_right}
-use Rattle.pack.specs.declared.Verdict.{Verdict}
-use Rattle.pack.specs.declared.Verdict.TheVariants.{Mark, Starts, Section, Keys, Balances, Invocations}
+use Rattle.std.specs.Prelude.{Err}
+use Rattle.pack.specs.declared.Refusal.TheVariants.{Mark, Starts, Section, Keys, Balances, Invocations}
 use Rattle.pack.specs.Sections.{mark, marked, ordered, start_of, has_section, section_of}
 use Rattle.pack.specs.Items.{keys_fill, rows_fill, outers_whole, groups_whole}
 use Rattle.pack.specs.View.{balances_named, view_of}
 use Rattle.pack.specs.Flatten.{flatten}
-use Rattle.pack.specs.Verdict.{refusal_number, verdict}
+use Rattle.pack.specs.Verdict.{Verdict, refusal_number, verdict}
 
 -- each check was passed
 pub record Passed (p : List ℕ) : Type 0 where
@@ -45,16 +45,16 @@ below false x y h e = (refl, e)
 pub passed : (p : List ℕ) → refusal_number (verdict p) ≡ 0 → Passed p
 unfolding verdict
 passed p e₀ =
-    let e₁ = past (marked p) Mark _ (omega arith) e₀ in
-    let e₂ = past (ordered p) Starts _ (omega arith) e₁.1 in
-    let e₃ = past (keys_fill (section_of p 0)) (Section 0) _ (omega arith) e₂.1 in
-    let e₄ = past (rows_fill 36 (section_of p 1)) (Section 1) _ (omega arith) e₃.1 in
-    let e₅ = past (outers_whole (section_of p 2)) (Section 2) _ (omega arith) e₄.1 in
-    let e₆ = past (groups_whole (section_of p 3)) (Section 3) _ (omega arith) e₅.1 in
-    let e₇ = past (rows_fill 32 (section_of p 4)) (Section 4) _ (omega arith) e₆.1 in
-    let e₈ = below (ltb 256 (length (view_of p).keys)) Keys _ (omega arith) e₇.1 in
-    let e₉ = past (balances_named (length (view_of p).keys) (view_of p).balances) Balances _ (omega arith) e₈.1 in
-    let e₁₀ = below (ltb 1024 (length (flatten (view_of p)))) Invocations _ (omega arith) e₉.1 in
+    let e₁ = past (marked p) (Err Mark) _ (omega arith) e₀ in
+    let e₂ = past (ordered p) (Err Starts) _ (omega arith) e₁.1 in
+    let e₃ = past (keys_fill (section_of p 0)) (Err (Section 0)) _ (omega arith) e₂.1 in
+    let e₄ = past (rows_fill 36 (section_of p 1)) (Err (Section 1)) _ (omega arith) e₃.1 in
+    let e₅ = past (outers_whole (section_of p 2)) (Err (Section 2)) _ (omega arith) e₄.1 in
+    let e₆ = past (groups_whole (section_of p 3)) (Err (Section 3)) _ (omega arith) e₅.1 in
+    let e₇ = past (rows_fill 32 (section_of p 4)) (Err (Section 4)) _ (omega arith) e₆.1 in
+    let e₈ = below (ltb 256 (length (view_of p).keys)) (Err Keys) _ (omega arith) e₇.1 in
+    let e₉ = past (balances_named (length (view_of p).keys) (view_of p).balances) (Err Balances) _ (omega arith) e₈.1 in
+    let e₁₀ = below (ltb 1024 (length (flatten (view_of p)))) (Err Invocations) _ (omega arith) e₉.1 in
     record {
       size = e₁.0;
       starts = e₂.0;

@@ -1,16 +1,14 @@
 -- The groups that are remembered: where they stand, how many they are, and that they make up all that an outer instruction holds.
 -- Assumes nothing.
-use mathlib.Core.Path.{◌≡◌, refl, sym, ap, ◌∙◌}
+use mathlib.Core.Path.{◌≡◌, refl, sym, ◌∙◌}
 use mathlib.Core.Bool.{Bool, true, false, cond, ◌&&◌}
 use mathlib.Core.List.{List, [], ◌∷◌, map}
 use Prim.Native.Nat.{ℕ, zero, suc, ◌+◌, ◌≤◌, ◌<◌}
-use native.Mathlib.Nat.{zero-add}
 use native.Mathlib.Omega.{arith}
 use borrow.Author.Tests.{ltb-true, ltb-false, leb-true, ne_eqb}
 use lib.Dec.{leb, ltb, eqb}
 use lib.ListN.{length, get_or, take, drop}
 use lib.Seq.{sets, sets-eq, take_at}
-use Rattle.wire.proofs.Sets.{sets-in}
 use Rattle.wire.specs.Le.{le}
 use Rattle.wire.proofs.Below.{and_left, and_right}
 use Rattle.pack.specs.Items.{item_end, outers_from, outers_fill, inners_from, count_at, group_end, group_good, group_at, groups_from, groups_fill}
@@ -111,6 +109,3 @@ kept-given r q s o (g ∷ gs) =
 -- a list laid over an array, read back
 pub laid : (l vs : List ℕ) → length vs ≤ length l → take (length vs) (sets l 0 vs) ≡ vs
 laid l vs h = rw (sets-eq vs l 0 (omega arith)) (take_at vs (drop (0 + length vs) l) (length vs) refl)
-
-pub laid-at : (l vs : List ℕ) (k : ℕ) → length vs ≤ length l → k < length vs → get_or (sets l 0 vs) k 0 ≡ get_or vs k 0
-laid-at l vs k h q = ap (λ (j : ℕ). get_or (sets l 0 vs) j 0) (sym (zero-add k)) ∙ sets-in l 0 vs k q (omega arith)

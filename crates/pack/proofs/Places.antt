@@ -19,10 +19,6 @@ use Rattle.pack.specs.Flatten.{numbered}
 use Rattle.pack.specs.Loops.{keeps, kept_from}
 use Rattle.pack.proofs.Walk.{item-grows, inners-inside, inners-grow}
 
--- the first of a run of stores
-pub sets-cons : (l : List ℕ) (n x : ℕ) (xs : List ℕ) → sets l n (x ∷ xs) ≡ sets (set l n x) (n + 1) xs
-sets-cons l n x xs = rw (add-one n)
-
 -- instructions of section 2, n of them passed
 module _ (s : List ℕ) (n at : ℕ) (few : n ≤ length s) where
   split : suc (length s) - n ≡ suc (suc (length s) - (n + 1))
@@ -121,12 +117,12 @@ module _ (s : List ℕ) (o g : ℕ) (gs : List ℕ) where
   unfolding kept_from
   kept-skip e = rw e
 
--- instructions of a group, j of its n passed: what r reads is written by f from place k on
+-- instructions of a group, j of its n passed: what r reads is written by f from index k on
 module _ (r : ℕ → ℕ) (s : List ℕ) (i k n j to : ℕ) (more : j < n) where
   left : n - j ≡ suc (n - (j + 1))
   left = omega arith
 
-  pub member-next : (f : Position × ℕ → ℕ) (l : List ℕ) (v : ℕ) → v ≡ f (record { outer = i; inner = some j; height = height_at s to }, r (to + 5))
+  pub member-next : {A : Type 0} (f : Position × ℕ → A) (l : List A) (v : A) → v ≡ f (record { outer = i; inner = some j; height = height_at s to }, r (to + 5))
       → sets (set l (k + j) v) (k + (j + 1)) (map f (numbered i (j + 1) (inners_from r s (n - (j + 1)) (item_end s (to + 5)))))
       ≡ sets l (k + j) (map f (numbered i j (inners_from r s (n - j) to)))
   unfolding numbered inners_from
@@ -136,7 +132,7 @@ module _ (r : ℕ → ℕ) (s : List ℕ) (i k n j to : ℕ) (more : j < n) wher
   unfolding inners_end
   member-end = rw left
 
-pub member-last : (r : ℕ → ℕ) (s : List ℕ) (i k n j to : ℕ) → n ≤ j → (f : Position × ℕ → ℕ) (l : List ℕ)
+pub member-last : {A : Type 0} (r : ℕ → ℕ) (s : List ℕ) (i k n j to : ℕ) → n ≤ j → (f : Position × ℕ → A) (l : List A)
     → sets l (k + j) (map f (numbered i j (inners_from r s (n - j) to))) ≡ l
 unfolding numbered inners_from
 member-last r s i k n j to h f l =

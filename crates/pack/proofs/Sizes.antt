@@ -1,11 +1,9 @@
 -- How many keys and invocations a pack has, by its sections: a key for each row, an instruction for each item.
 -- Assumes nothing.
 use mathlib.Core.Path.{◌≡◌, refl, ap, ◌∙◌}
-use mathlib.Core.Bool.{Bool, true, false, cond}
 use mathlib.Core.List.{List}
 use Prim.Native.Nat.{ℕ, zero, suc, ◌+◌, ◌/◌}
 use lib.ListN.{length, get_or, drop, length-map}
-use Rattle.pack.specs.declared.whole.Count.TheVariants.{Of, Broken}
 use Rattle.pack.specs.Sections.{section_of}
 use Rattle.pack.specs.Items.{rows}
 use Rattle.pack.specs.View.{keys_in, outer_in, groups_in, view_of}
@@ -28,12 +26,3 @@ keys_length p = key-rows (section_of p 0)
 pub invocations-length : (p : List ℕ) → length (flatten (view_of p)) ≡ length (outer_in (section_of p 2)) + kept_in (length (outer_in (section_of p 2))) (groups_in (section_of p 3))
 unfolding view_of
 invocations-length p = flatten-length (view_of p)
-
--- what the count of a section tells
-pub count-broken : (b : Bool) (x : ℕ) → Broken ≡ cond b (Of x) Broken → b ≡ false
-count-broken true x e = cc
-count-broken false x e = refl
-
-pub count_of : (b : Bool) (x y : ℕ) → Of y ≡ cond b (Of x) Broken → (b ≡ true) × (y ≡ x)
-count_of true x y e = (refl, cc)
-count_of false x y e = (cc, cc)

@@ -10,7 +10,8 @@ use Rattle.pack.specs.Invocation.{Position}
 use Rattle.pack.specs.Group.{Group}
 use Rattle.pack.specs.Items.{item_end, outers_from}
 use Rattle.pack.specs.Flatten.{inside, outermost, flatten_from}
-use Rattle.pack.proofs.Places.{sets-cons, outers-cons, outers-nil}
+use Rattle.pack.proofs.Stores.{sets-cons}
+use Rattle.pack.proofs.Places.{outers-cons, outers-nil}
 use Rattle.pack.proofs.Chains.{wrote-more}
 
 -- the outer instructions from outer i on, which stands at `to` of their section; r reads each from its offset
@@ -27,7 +28,7 @@ module _ (r : ℕ → ℕ) (outs : List ℕ) (gs : List (Group ℕ)) (i to : ℕ
   rest-nil h = rw (outers-nil outs i to few h)
 
 -- an outer instruction is written at place n, and its groups behind it
-pub wrote-outer : (f : Position × ℕ → ℕ) (l l₁ : List ℕ) (n m v : ℕ) (x : Position × ℕ) (ys zs ws : List (Position × ℕ)) → v ≡ f x
+pub wrote-outer : {A : Type 0} (f : Position × ℕ → A) (l l₁ : List A) (n m : ℕ) (v : A) (x : Position × ℕ) (ys zs ws : List (Position × ℕ)) → v ≡ f x
     → l₁ ≡ sets (set l n v) (n + 1) (map f ys) → m ≡ n + 1 + length ys → ws ≡ x ∷ (ys ++ zs) → sets l₁ m (map f zs) ≡ sets l n (map f ws)
 wrote-outer f l l₁ n m v x ys zs ws e q c w =
     wrote-more f (set l n v) l₁ (n + 1) m ys zs q c ∙ rw (e, w) (sym (sets-cons l n (f x) (map f (ys ++ zs))))

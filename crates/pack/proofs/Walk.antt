@@ -11,13 +11,11 @@ use lib.Dec.{ltb, leb}
 use lib.ListN.{length}
 use Rattle.wire.specs.Le.{le}
 use Rattle.wire.proofs.Below.{and_left, and_right}
-use Rattle.pack.specs.declared.whole.Count.{Count}
-use Rattle.pack.specs.declared.whole.Count.TheVariants.{Of, Broken}
-use Rattle.pack.specs.declared.whole.Walk.{Walk}
-use Rattle.pack.specs.declared.whole.Walk.TheVariants.{To, Cut}
+use Rattle.std.specs.Prelude.{Option, Some, None}
 use Rattle.pack.specs.Invocation.{instruction_at}
 use Rattle.pack.specs.Items.{item_end, outers_from, outers_fill, height_good, inners_end, inners_good, inners_from, count_at, group_end, group_good, group_at, groups_from, groups_fill}
 use Rattle.pack.specs.Flatten.{kept_in}
+use Rattle.pack.proofs.Tests.{none_if, some_if}
 
 -- an instruction has 8 bytes and more
 pub item-grows : (s : List ℕ) (at : ℕ) → at + 8 ≤ item_end s at
@@ -37,18 +35,18 @@ inners-length r s zero at = refl
 inners-length r s (suc n) at = ap suc (inners-length r s n (item_end s (at + 5)))
 
 -- section 2 from `at` on, with n instructions before it
-abbrev pub outers_count : List ℕ → ℕ → ℕ → ℕ → Count
-outers_count s f at n = cond (outers_fill s f at) (Of (n + length (outers_from s f at))) Broken
+abbrev pub outers_count : List ℕ → ℕ → ℕ → ℕ → Option ℕ
+outers_count s f at n = cond (outers_fill s f at) (Some (n + length (outers_from s f at))) None
 
 module _ (s : List ℕ) (at n : ℕ) (few : n ≤ length s) where
   split : suc (length s) - n ≡ suc (length s - n)
   split = omega arith
 
-  pub outers-ended : length s ≤ at → outers_count s (suc (length s) - n) at n ≡ Of n
+  pub outers-ended : length s ≤ at → outers_count s (suc (length s) - n) at n ≡ Some n
   unfolding outers_fill outers_from
   outers-ended h = rw (split, le-ltb _ _ h, add-zero n)
 
-  pub outers-cut : at < length s → length s < item_end s at → outers_count s (suc (length s) - n) at n ≡ Broken
+  pub outers-cut : at < length s → length s < item_end s at → outers_count s (suc (length s) - n) at n ≡ None
   unfolding outers_fill outers_from
   outers-cut h k = rw (split, lt-ltb _ _ h, lt-leb _ _ k)
 
@@ -61,24 +59,24 @@ module _ (s : List ℕ) (at n : ℕ) (few : n ≤ length s) where
       rw (f, split, lt-ltb _ _ h, le-leb _ _ k, m)
 
 -- the instructions of a group, n less j of them left
-abbrev pub inners_walk : List ℕ → ℕ → ℕ → Walk
-inners_walk s n at = cond (inners_good s n at) (To (inners_end s n at)) Cut
+abbrev pub inners_walk : List ℕ → ℕ → ℕ → Option ℕ
+inners_walk s n at = cond (inners_good s n at) (Some (inners_end s n at)) None
 
 module _ (s : List ℕ) (n j at : ℕ) where
   left : j < n → n - j ≡ suc (n - (j + 1))
   left h = omega arith
 
-  pub inners-ended : n ≤ j → inners_walk s (n - j) at ≡ To at
+  pub inners-ended : n ≤ j → inners_walk s (n - j) at ≡ Some at
   unfolding inners_good inners_end
   inners-ended h =
       let z : n - j ≡ 0 = omega arith in
       rw z
 
-  pub inners-cut : j < n → length s < item_end s (at + 5) → inners_walk s (n - j) at ≡ Cut
+  pub inners-cut : j < n → length s < item_end s (at + 5) → inners_walk s (n - j) at ≡ None
   unfolding inners_good inners_end
   inners-cut h k = rw (left h, lt-leb _ _ k)
 
-  pub inners-bad : j < n → item_end s (at + 5) ≤ length s → height_good s at ≡ false → inners_walk s (n - j) at ≡ Cut
+  pub inners-bad : j < n → item_end s (at + 5) ≤ length s → height_good s at ≡ false → inners_walk s (n - j) at ≡ None
   unfolding inners_good inners_end
   inners-bad h k e = rw (left h, le-leb _ _ k, e)
 
@@ -88,15 +86,15 @@ module _ (s : List ℕ) (n j at : ℕ) where
   inners-more h k e = rw (left h, le-leb _ _ k, e)
 
 -- section 3 from `at` on, n instructions kept before it
-abbrev pub groups_count : List ℕ → ℕ → ℕ → ℕ → ℕ → Count
-groups_count s o f at n = cond (groups_fill s f at) (Of (n + kept_in o (map (group_at (instruction_at s) s) (groups_from s f at)))) Broken
+abbrev pub groups_count : List ℕ → ℕ → ℕ → ℕ → ℕ → Option ℕ
+groups_count s o f at n = cond (groups_fill s f at) (Some (n + kept_in o (map (group_at (instruction_at s) s) (groups_from s f at)))) None
 
 module _ (s : List ℕ) (o f g at n : ℕ) (next : f ≡ suc g) where
-  pub groups-ended : length s ≤ at → groups_count s o f at n ≡ Of n
+  pub groups-ended : length s ≤ at → groups_count s o f at n ≡ Some n
   unfolding groups_fill groups_from kept_in
   groups-ended h = rw (next, le-ltb _ _ h, add-zero n)
 
-  pub groups-cut : at < length s → group_good s at ≡ false → groups_count s o f at n ≡ Broken
+  pub groups-cut : at < length s → group_good s at ≡ false → groups_count s o f at n ≡ None
   unfolding groups_fill groups_from
   groups-cut h e = rw (next, lt-ltb _ _ h, e)
 
@@ -105,7 +103,7 @@ module _ (s : List ℕ) (o f g at n : ℕ) (next : f ≡ suc g) where
   unfolding groups_fill groups_from kept_in group_at
   groups-more h e =
       rw (next, lt-ltb _ _ h, e, inners-length (instruction_at s) s (count_at s at) (at + 6))
-      (ap (λ (k : ℕ). cond (groups_fill s g (group_end s at)) (Of k) Broken) (taken (ltb (le 4 s at) o) (count_at s at) (kept_in o (map (group_at (instruction_at s) s) (groups_from s g (group_end s at))))))
+      (ap (λ (k : ℕ). cond (groups_fill s g (group_end s at)) (Some k) None) (taken (ltb (le 4 s at) o) (count_at s at) (kept_in o (map (group_at (instruction_at s) s) (groups_from s g (group_end s at))))))
     where
       taken : (t : Bool) (k m : ℕ) → n + cond t k 0 + m ≡ n + cond t (k + m) m
       taken true k m = omega arith
@@ -124,26 +122,18 @@ pub kept-few : (t : Bool) (n k : ℕ) → k ≡ cond t n 0 → k ≤ n
 kept-few true n k e = omega arith
 kept-few false n k e = omega arith
 
-walk-cut : (b : Bool) (x : ℕ) → Cut ≡ cond b (To x) Cut → b ≡ false
-walk-cut true x e = cc
-walk-cut false x e = refl
-
-walk-to : (b : Bool) (x y : ℕ) → To y ≡ cond b (To x) Cut → (b ≡ true) × (y ≡ x)
-walk-to true x y e = (refl, cc)
-walk-to false x y e = (cc, cc)
-
 module _ (s : List ℕ) (at : ℕ) (header : at + 6 ≤ length s) where
   -- the walk over a group's instructions was cut
-  pub group-cut : Cut ≡ inners_walk s (count_at s at) (at + 6) → group_good s at ≡ false
+  pub group-cut : None ≡ inners_walk s (count_at s at) (at + 6) → group_good s at ≡ false
   unfolding group_good
-  group-cut e = rw (le-leb _ _ header) (walk-cut (inners_good s (count_at s at) (at + 6)) (inners_end s (count_at s at) (at + 6)) e)
+  group-cut e = rw (le-leb _ _ header) (none_if (inners_good s (count_at s at) (at + 6)) (inners_end s (count_at s at) (at + 6)) e)
 
   -- it came to an end: the group's, in the section
-  pub group-passed : (end : ℕ) → To end ≡ inners_walk s (count_at s at) (at + 6)
+  pub group-passed : (end : ℕ) → Some end ≡ inners_walk s (count_at s at) (at + 6)
       → (group_good s at ≡ true) × (end ≡ group_end s at) × (end ≤ length s) × (at + 6 + 13 * count_at s at ≤ end)
   unfolding group_good group_end
   group-passed end e =
-      let w = walk-to (inners_good s (count_at s at) (at + 6)) (inners_end s (count_at s at) (at + 6)) end e in
+      let w = some_if (inners_good s (count_at s at) (at + 6)) (inners_end s (count_at s at) (at + 6)) end e in
       let inside = inners-inside s (count_at s at) (at + 6) header w.0 in
       let grows = inners-grow s (count_at s at) (at + 6) in
       (rw (le-leb _ _ header) w.0, w.1, omega arith, omega arith)

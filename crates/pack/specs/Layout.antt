@@ -1,10 +1,11 @@
--- The invocations of a pack as four arrays: where each instruction stands, and its position.
+-- The invocations of a pack as two arrays: where each instruction stands, and its position.
 -- Assumes nothing.
-use Rattle.std.specs.Prelude.{ℕ, zero, suc, ◌+◌, ◌≡◌, cond, List, [], map, eqb, length}
+use Rattle.std.specs.Prelude.{ℕ, zero, suc, ◌+◌, ◌≡◌, cond, List, [], map, eqb, length, replicate}
 use Rattle.std.proofs.Math.Option.{Option, none, some}
 use Rattle.std.proofs.lemmas.List.Edits.{sets}
 use Rattle.wire.specs.Zeros.{zeros}
-use Rattle.pack.specs.Invocation.{Position}
+use Rattle.pack.specs.Invocation.{Position, blank_place}
+use Rattle.pack.specs.declared.position.Place.{Place}
 use Rattle.pack.specs.Group.{Group}
 use Rattle.pack.specs.Sections.{start_of, section_of}
 use Rattle.pack.specs.Items.{outers_at, inners_from, count_at, group_at, groups_at}
@@ -36,42 +37,22 @@ unfoldable pub raised : Option ℕ → ℕ
 raised none = zero
 raised (some k) = suc k
 
--- what each of the four arrays holds of an invocation
+-- what each of the two arrays holds of an invocation
 abbrev pub at_of : Position × ℕ → ℕ
 at_of x = x.1
 
-abbrev pub outer_of : Position × ℕ → ℕ
-outer_of x = x.0.outer
+abbrev pub place_held : Position × ℕ → Place
+place_held x = record { outer = x.0.outer; inner = raised x.0.inner; height = raised x.0.height }
 
-abbrev pub inner_of : Position × ℕ → ℕ
-inner_of x = raised x.0.inner
-
-abbrev pub height_of : Position × ℕ → ℕ
-height_of x = raised x.0.height
-
--- the four arrays
-pub record Columns : Type 0 where
-  -- where each instruction stands in the pack
-  pub at : List ℕ
-  -- the index of its outer instruction
-  pub outer : List ℕ
-  -- its inner index, and its height, as `raised` has them
-  pub inner : List ℕ
-  pub height : List ℕ
-
-abbrev pub columns : List ℕ → List ℕ → List ℕ → List ℕ → Columns
-columns at outer inner height = record { at = at; outer = outer; inner = inner; height = height }
-
--- the arrays after the invocations xs were written from place n on
-pub record Wrote (xs : List (Position × ℕ)) (n r : ℕ) (before after : Columns) : Type 0 where
-  -- the place that is then reached
+-- the arrays after the invocations xs were written from index n on
+pub record Wrote (xs : List (Position × ℕ)) (n r : ℕ) (at at' : List ℕ) (places places' : List Place) : Type 0 where
+  -- the index that is then reached
   pub count : r ≡ n + length xs
-  -- what each array holds
-  pub ats : after.at ≡ sets before.at n (map at_of xs)
-  pub outers : after.outer ≡ sets before.outer n (map outer_of xs)
-  pub inners : after.inner ≡ sets before.inner n (map inner_of xs)
-  pub heights : after.height ≡ sets before.height n (map height_of xs)
+  -- where each instruction stands in the pack
+  pub ats : at' ≡ sets at n (map at_of xs)
+  -- and where it was run
+  pub runs : places' ≡ sets places n (map place_held xs)
 
--- what `flatten` leaves: the invocations from the first place on, and zeros behind them
-abbrev pub Flattened : List ℕ → ℕ → List ℕ → List ℕ → List ℕ → List ℕ → Type 0
-Flattened p r at outer inner height = Wrote (layout p) 0 r (columns (zeros 1024) (zeros 1024) (zeros 1024) (zeros 1024)) (columns at outer inner height)
+-- what `flatten` leaves: the invocations from the first index on, and blanks behind them
+abbrev pub Flattened : List ℕ → ℕ → List ℕ → List Place → Type 0
+Flattened p r at places = Wrote (layout p) 0 r (zeros 1024) at (replicate 1024 blank_place) places

@@ -30,10 +30,8 @@ fn inners_end(s: &[u8], n: usize, at: usize) -> usize
     ensures { result ≡ inners_end s.now n at }
 {
     let mut to = at;
-    let mut j = 0;
-    while j < n {
+    for _ in 0..n {
         to = super::item_end(s, to + 5);
-        j += 1;
     }
     to
 }
@@ -74,9 +72,7 @@ fn link(s: &[u8], place: &[u16; 1024], n: usize, next: &mut [u16; 1024], first: 
     requires by_index { (k : ℕ) → k < n → (get_or place.now k 0 ≤ 61440) × (le 4 s.now (get_or place.now k 0) < 1024) }
     ensures { Linked s.now (take n place.now) next.new first.new }
 {
-    let mut k = n;
-    while 0 < k {
-        k -= 1;
+    for k in (0..n).rev() {
         let i = wire::u32_at(s, place[k] as usize) as usize;
         next[k] = first[i];
         first[i] = k as u16 + 1;

@@ -1,11 +1,12 @@
-// Flattening: the invocations of a pack in execution order, one array for each field.
+// Flattening: the invocations of a pack in execution order, in two arrays: where each instruction stands, and where it was run.
 ghost use Rattle.std.specs.Prelude.{◌≡◌, ◌+◌, ◌≤◌, length};
 ghost use Rattle.pack.specs.Items.{height_at, count_at, group_end, groups_at};
-ghost use Rattle.pack.specs.Verdict.{verdict, refusal_number};
-ghost use Rattle.pack.specs.Layout.{members_at, inside_at, raised, columns, Wrote, layout, Flattened};
+ghost use Rattle.pack.specs.Verdict.{verdict, refusal_number, verdict_in, count_in};
+ghost use Rattle.pack.specs.Layout.{members_at, inside_at, raised, Wrote, layout, Flattened};
 ghost use Rattle.pack.specs.Loops.{Chained, AllChained};
 
-use super::Verdict;
+use super::Refusal;
+use super::position::{BLANK, Place};
 
 // A height as the arrays hold it.
 fn height_code(s: &[u8], at: usize) -> u64
@@ -19,48 +20,34 @@ fn height_code(s: &[u8], at: usize) -> u64
 }
 
 // How far the groups of an outer instruction are written: where their section starts in the pack, the outer instruction, the group that comes next as the
-// chain has it (one higher, 0 after the last), and the place of the arrays that it goes to.
+// chain has it (one higher, 0 after the last), and the index of the arrays that it goes to.
 #[derive(Clone, Copy)]
 struct Way {
     base: usize,
     outer: u32,
     group: usize,
-    place: usize,
+    index: usize,
 }
 
 // The instructions of the group that comes next, which stands at g.
-fn members(
-    s: &[u8],
-    g: usize,
-    way: Way,
-    at: &mut [u32; 1024],
-    outer: &mut [u32; 1024],
-    inner: &mut [u32; 1024],
-    height: &mut [u64; 1024],
-) -> usize
-    requires { (way.place + count_at s.now g ≤ 1024) × (group_end s.now g ≤ length s.now) × (way.base + length s.now ≤ 61440) }
-    ensures { Wrote (members_at s.now way.base way.outer g) way.place result
-        (columns at.old outer.old inner.old height.old)
-        (columns at.new outer.new inner.new height.new) }
+fn members(s: &[u8], g: usize, way: Way, at: &mut [u32; 1024], places: &mut [Place; 1024]) -> usize
+    requires { (way.index + count_at s.now g ≤ 1024) × (group_end s.now g ≤ length s.now) × (way.base + length s.now ≤ 61440) }
+    ensures { Wrote (members_at s.now way.base way.outer g) way.index result at.old at.new places.old places.new }
 {
-    let base = way.base;
-    let i = way.outer;
-    let n = way.place;
     let count = wire::u16_at(s, g + 4) as usize;
     let mut to = g + 6;
-    let mut j = 0;
-    while j < count {
-        let k = n + j;
-        let h = height_code(s, to);
+    for j in 0..count {
+        let k = way.index + j;
         let header = to + 5;
-        at[k] = (base + header) as u32;
-        outer[k] = i;
-        inner[k] = j as u32 + 1;
-        height[k] = h;
+        at[k] = (way.base + header) as u32;
+        places[k] = Place {
+            outer: way.outer,
+            inner: j as u32 + 1,
+            height: height_code(s, to),
+        };
         to = super::item_end(s, header);
-        j += 1;
     }
-    n + count
+    way.index + count
 }
 
 // The groups of an outer instruction, from the first one on.
@@ -70,29 +57,25 @@ fn own_groups(
     next: &[u16; 1024],
     way: Way,
     at: &mut [u32; 1024],
-    outer: &mut [u32; 1024],
-    inner: &mut [u32; 1024],
-    height: &mut [u64; 1024],
+    places: &mut [Place; 1024],
 ) -> usize
     requires chained { Chained s.now way.outer place.now next.now way.group }
-    requires s_bound { way.place + length (inside_at s.now way.base way.outer (groups_at s.now)) ≤ 1024 }
+    requires s_bound { way.index + length (inside_at s.now way.base way.outer (groups_at s.now)) ≤ 1024 }
     requires s_bound_2 { way.base + length s.now ≤ 61440 }
-    ensures { Wrote (inside_at s.now way.base way.outer (groups_at s.now)) way.place result
-        (columns at.old outer.old inner.old height.old)
-        (columns at.new outer.new inner.new height.new) }
+    ensures { Wrote (inside_at s.now way.base way.outer (groups_at s.now)) way.index result at.old at.new places.old places.new }
 {
     let base = way.base;
     let i = way.outer;
     let mut c = way.group;
-    let mut k = way.place;
+    let mut k = way.index;
     while 0 < c {
         let here = Way {
             base,
             outer: i,
             group: c,
-            place: k,
+            index: k,
         };
-        k = members(s, place[c - 1] as usize, here, at, outer, inner, height);
+        k = members(s, place[c - 1] as usize, here, at, places);
         c = next[c - 1] as usize;
     }
     k
@@ -105,14 +88,10 @@ fn spread(
     next: &[u16; 1024],
     first: &[u16; 1024],
     at: &mut [u32; 1024],
-    outer: &mut [u32; 1024],
-    inner: &mut [u32; 1024],
-    height: &mut [u64; 1024],
+    places: &mut [Place; 1024],
 ) -> usize
     requires { (refusal_number (verdict pack.now) ≡ 0) × AllChained pack.now place.now next.now first.now }
-    ensures { Wrote (layout pack.now) 0 result
-        (columns at.old outer.old inner.old height.old)
-        (columns at.new outer.new inner.new height.new) }
+    ensures { Wrote (layout pack.now) 0 result at.old at.new places.old places.new }
 {
     let outs = super::section(pack, 2);
     let s = super::section(pack, 3);
@@ -123,18 +102,20 @@ fn spread(
     let mut to = 0;
     while to < outs.len() {
         at[n] = (from + to) as u32;
-        outer[n] = i;
-        inner[n] = 0;
-        height[n] = 2;
+        places[n] = Place {
+            outer: i,
+            inner: 0,
+            height: 2,
+        };
         n += 1;
         let group = first[i as usize] as usize;
         let way = Way {
             base,
             outer: i,
             group,
-            place: n,
+            index: n,
         };
-        n = own_groups(s, place, next, way, at, outer, inner, height);
+        n = own_groups(s, place, next, way, at, places);
         to = super::item_end(outs, to);
         i += 1;
     }
@@ -142,51 +123,29 @@ fn spread(
 }
 
 // The invocations of a pack that no refusal meets.
-fn fill(
-    pack: &[u8],
-    at: &mut [u32; 1024],
-    outer: &mut [u32; 1024],
-    inner: &mut [u32; 1024],
-    height: &mut [u64; 1024],
-) -> usize
+fn fill(pack: &[u8], at: &mut [u32; 1024], places: &mut [Place; 1024]) -> usize
     requires { refusal_number (verdict pack.now) ≡ 0 }
-    ensures { Wrote (layout pack.now) 0 result
-        (columns at.old outer.old inner.old height.old)
-        (columns at.new outer.new inner.new height.new) }
+    ensures { Wrote (layout pack.now) 0 result at.old at.new places.old places.new }
 {
     let mut place = [0u16; 1024];
     let mut next = [0u16; 1024];
     let mut first = [0u16; 1024];
     super::chain::chain(pack, &mut place, &mut next, &mut first);
-    spread(pack, &place, &next, &first, at, outer, inner, height)
+    spread(pack, &place, &next, &first, at, places)
 }
 
-// What flattening finds: the verdict, and how many invocations there are (none where the pack is refused).
-#[derive(Clone, Copy)]
-pub struct Flat {
-    pub verdict: Verdict,
-    pub count: usize,
-}
-
-// The invocations of a pack in execution order, the arrays zero behind them; none of a pack that is refused. It judges the pack, so a caller need not.
+// The invocations of a pack in execution order, and how many they are; the arrays are blank behind them, and all of them where the pack is refused. It judges
+// the pack, so a caller need not.
 pub fn flatten(
     pack: &[u8],
     at: &mut [u32; 1024],
-    outer: &mut [u32; 1024],
-    inner: &mut [u32; 1024],
-    height: &mut [u64; 1024],
-) -> Flat
-    ensures { (result.verdict ≡ verdict pack.now)
-        × Flattened pack.now result.count at.new outer.new inner.new height.new }
+    places: &mut [Place; 1024],
+) -> Result<usize, Refusal>
+    ensures verdict { verdict_in result ≡ verdict pack.now }
+    ensures arrays { Flattened pack.now (count_in result) at.new places.new }
 {
-    *at = [0u32; 1024];
-    *outer = [0u32; 1024];
-    *inner = [0u32; 1024];
-    *height = [0u64; 1024];
-    let verdict = super::judge(pack);
-    if super::number(verdict) != 0 {
-        return Flat { verdict, count: 0 };
-    }
-    let count = fill(pack, at, outer, inner, height);
-    Flat { verdict, count }
+    *at = [0; 1024];
+    *places = [BLANK; 1024];
+    super::judge(pack)?;
+    Ok(fill(pack, at, places))
 }

@@ -4,7 +4,7 @@
 // where it was run, `section` shows a part of the pack, and `program`, `accounts` and `data` read an instruction back from its offset.
 #![tactic(auto)]
 
-ghost use Rattle.std.specs.Prelude.{◌≡◌, ◌+◌, ◌<◌, ◌≤◌, length, get_or};
+ghost use Rattle.std.specs.Prelude.{◌≡◌, ◌+◌, ◌<◌, ◌≤◌, length, get_or, Err};
 ghost use Rattle.wire.specs.Le.{le};
 ghost use Rattle.pack.specs.Items.{item_end};
 ghost use Rattle.pack.specs.Verdict.{verdict, refusal_number, place_of};
@@ -16,17 +16,15 @@ pub mod position;
 pub mod trailer;
 pub mod whole;
 
-pub use flat::{Flat, flatten};
+pub use flat::flatten;
 pub use item::{accounts, data, program};
 pub use position::Place;
 pub use trailer::section;
-use whole::Count;
 
-// What is wrong with a pack: nothing; its size or mark; its section starts; a row or item of a section, the lowest such; too many keys; a balance row that
-// names no key; too many invocations.
+// What is wrong with a pack: its size or mark; its section starts; a row or item of a section, the lowest such; too many keys; a balance row that names no
+// key; too many invocations.
 #[derive(Clone, Copy)]
-pub enum Verdict {
-    Good,
+pub enum Refusal {
     Mark,
     Starts,
     Section(u32),
@@ -35,76 +33,72 @@ pub enum Verdict {
     Invocations,
 }
 
-// The number of a refusal, 0 for none.
-pub fn number(v: Verdict) -> u32
-    ensures { result ≡ refusal_number v }
-{
-    match v {
-        Verdict::Good => 0,
-        Verdict::Mark => 2,
-        Verdict::Starts => 3,
-        Verdict::Section(_) => 4,
-        Verdict::Keys => 5,
-        Verdict::Balances => 11,
-        Verdict::Invocations => 6,
+impl Refusal {
+    // Its number in docs/FORMAT.md.
+    pub fn number(self) -> u32
+        ensures { result ≡ refusal_number (Err self) }
+    {
+        match self {
+            Refusal::Mark => 2,
+            Refusal::Starts => 3,
+            Refusal::Section(_) => 4,
+            Refusal::Keys => 5,
+            Refusal::Balances => 11,
+            Refusal::Invocations => 6,
+        }
     }
-}
 
-// Its place: the section that is broken or names no key, else 0.
-pub fn place(v: Verdict) -> u32
-    ensures { result ≡ place_of v }
-{
-    match v {
-        Verdict::Good => 0,
-        Verdict::Mark => 0,
-        Verdict::Starts => 0,
-        Verdict::Section(k) => k,
-        Verdict::Keys => 0,
-        Verdict::Balances => 1,
-        Verdict::Invocations => 0,
+    // Its place: the section that is broken or names no key, else 0.
+    pub fn place(self) -> u32
+        ensures { result ≡ place_of (Err self) }
+    {
+        match self {
+            Refusal::Mark => 0,
+            Refusal::Starts => 0,
+            Refusal::Section(k) => k,
+            Refusal::Keys => 0,
+            Refusal::Balances => 1,
+            Refusal::Invocations => 0,
+        }
     }
 }
 
 // Which refusal a pack meets, in the order of the checks.
-pub(crate) fn judge(pack: &[u8]) -> Verdict
+pub(crate) fn judge(pack: &[u8]) -> Result<(), Refusal>
     ensures { result ≡ verdict pack.now }
 {
     if !trailer::marked(pack) {
-        return Verdict::Mark;
+        return Err(Refusal::Mark);
     }
     if !trailer::ordered(pack) {
-        return Verdict::Starts;
+        return Err(Refusal::Starts);
     }
     let keys = section(pack, 0);
     if !whole::keys(keys) {
-        return Verdict::Section(0);
+        return Err(Refusal::Section(0));
     }
     let balances = section(pack, 1);
     if balances.len() % 36 != 0 {
-        return Verdict::Section(1);
+        return Err(Refusal::Section(1));
     }
-    let Count::Of(outers) = whole::outers(section(pack, 2)) else {
-        return Verdict::Section(2);
-    };
-    let Count::Of(inners) = whole::groups(section(pack, 3), outers) else {
-        return Verdict::Section(3);
-    };
+    let outers = whole::outers(section(pack, 2)).ok_or(Refusal::Section(2))?;
+    let inners = whole::groups(section(pack, 3), outers).ok_or(Refusal::Section(3))?;
     if section(pack, 4).len() % 32 != 0 {
-        return Verdict::Section(4);
+        return Err(Refusal::Section(4));
     }
     if 256 < keys.len() / 33 {
-        return Verdict::Keys;
+        return Err(Refusal::Keys);
     }
     if !whole::balances(balances, keys.len() / 33) {
-        return Verdict::Balances;
+        return Err(Refusal::Balances);
     }
     if 1024 < outers {
-        return Verdict::Invocations;
+        return Err(Refusal::Invocations);
     }
     if 1024 - outers < inners {
-        return Verdict::Invocations;
+        return Err(Refusal::Invocations);
     }
-    Verdict::Good
+    Ok(())
 }
 
 // A byte that is there: a walk over a section tests once that a header is there, and then reads its fields without further tests. (`wire` keeps such

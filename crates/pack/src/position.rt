@@ -1,6 +1,7 @@
 // Where an invocation was run, as an array holds it.
 
-// Its outer index; its inner index and its height, each one higher than it is, 0 where there is none.
+// Its outer index; its inner index and its height, each one higher than it is, 0 where there is none. They are codes, since every call zeroes 1,024 of these:
+// an `Option<u64>` would double that, and the height keeps 64 bits so that nothing is asked of who makes a place.
 #[derive(Clone, Copy)]
 pub struct Place {
     pub outer: u32,

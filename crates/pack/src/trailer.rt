@@ -45,12 +45,10 @@ pub(crate) fn ordered(pack: &[u8]) -> bool
     if start(pack, 0) != 0 {
         return false;
     }
-    let mut k = 0;
-    while k < 5 {
+    for k in 0..5 {
         if start(pack, k + 1) < start(pack, k) {
             return false;
         }
-        k += 1;
     }
     true
 }

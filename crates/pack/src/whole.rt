@@ -1,25 +1,9 @@
 // Whether rows, instructions and groups fill their section, how many there are, and whether balances name keys.
-ghost use Rattle.std.specs.Prelude.{◌≡◌, cond, ◌+◌, ◌≤◌, ltb, length};
+ghost use Rattle.std.specs.Prelude.{◌≡◌, cond, ◌+◌, ◌≤◌, ltb, length, Some, None};
 ghost use Rattle.wire.specs.Le.{le};
 ghost use Rattle.pack.specs.Items.{keys_fill, outers_whole, height_good, inners_good, inners_end, groups_whole};
 ghost use Rattle.pack.specs.View.{balances_in, balances_named, outer_in, groups_in};
 ghost use Rattle.pack.specs.Flatten.{kept_in};
-ghost use Rattle.pack.specs.declared.whole.Count.TheVariants.{Of, Broken};
-ghost use Rattle.pack.specs.declared.whole.Walk.TheVariants.{To, Cut};
-
-// How many items a section has, or that they do not fill it.
-#[derive(Clone, Copy)]
-pub enum Count {
-    Of(usize),
-    Broken,
-}
-
-// Where a run of items ends, or that one of them is cut short or has a bad height.
-#[derive(Clone, Copy)]
-pub enum Walk {
-    To(usize),
-    Cut,
-}
 
 // Section 0: rows of 33 bytes, the first of each a flag.
 pub(crate) fn keys(s: &[u8]) -> bool
@@ -29,12 +13,10 @@ pub(crate) fn keys(s: &[u8]) -> bool
         return false;
     }
     let rows = s.len() / 33;
-    let mut i = 0;
-    while i < rows {
+    for i in 0..rows {
         if 1 < s[i * 33] {
             return false;
         }
-        i += 1;
     }
     true
 }
@@ -44,34 +26,32 @@ pub(crate) fn balances(s: &[u8], keys: usize) -> bool
     ensures { result ≡ balances_named keys (balances_in s.now) }
 {
     let rows = s.len() / 36;
-    let mut i = 0;
-    while i < rows {
+    for i in 0..rows {
         if keys <= super::four(s, i * 36) as usize {
             return false;
         }
-        i += 1;
     }
     true
 }
 
 // Section 2: instructions.
-pub(crate) fn outers(s: &[u8]) -> Count
-    ensures { result ≡ cond (outers_whole s.now) (Of (length (outer_in s.now))) Broken }
+pub(crate) fn outers(s: &[u8]) -> Option<usize>
+    ensures { result ≡ cond (outers_whole s.now) (Some (length (outer_in s.now))) None }
 {
     let mut at = 0;
     let mut n = 0;
     while at < s.len() {
         if s.len() - at < 8 {
-            return Count::Broken;
+            return None;
         }
         let end = super::item_end(s, at);
         if s.len() < end {
-            return Count::Broken;
+            return None;
         }
         at = end;
         n += 1;
     }
-    Count::Of(n)
+    Some(n)
 }
 
 // Flag 0 and height 0, or flag 1.
@@ -87,27 +67,25 @@ fn height_good(s: &[u8], at: usize) -> bool
 }
 
 // A group's instructions, n of them from `at` on.
-fn inners(s: &[u8], n: usize, at: usize) -> Walk
+fn inners(s: &[u8], n: usize, at: usize) -> Option<usize>
     requires { at ≤ length s.now }
-    ensures { result ≡ cond (inners_good s.now n at) (To (inners_end s.now n at)) Cut }
+    ensures { result ≡ cond (inners_good s.now n at) (Some (inners_end s.now n at)) None }
 {
     let mut to = at;
-    let mut j = 0;
-    while j < n {
+    for _ in 0..n {
         if s.len() - to < 13 {
-            return Walk::Cut;
+            return None;
         }
         let end = super::item_end(s, to + 5);
         if s.len() < end {
-            return Walk::Cut;
+            return None;
         }
         if !height_good(s, to) {
-            return Walk::Cut;
+            return None;
         }
         to = end;
-        j += 1;
     }
-    Walk::To(to)
+    Some(to)
 }
 
 // What a group of n instructions adds to those kept: nothing where it names none of the o outer instructions.
@@ -122,21 +100,19 @@ fn kept(s: &[u8], at: usize, o: usize, n: usize) -> usize
 }
 
 // Section 3: groups; how many instructions those hold that name one of the o outer instructions.
-pub(crate) fn groups(s: &[u8], o: usize) -> Count
-    ensures { result ≡ cond (groups_whole s.now) (Of (kept_in o (groups_in s.now))) Broken }
+pub(crate) fn groups(s: &[u8], o: usize) -> Option<usize>
+    ensures { result ≡ cond (groups_whole s.now) (Some (kept_in o (groups_in s.now))) None }
 {
     let mut at = 0;
     let mut n = 0;
     while at < s.len() {
         if s.len() - at < 6 {
-            return Count::Broken;
+            return None;
         }
         let count = wire::u16_at(s, at + 4) as usize;
-        let Walk::To(end) = inners(s, count, at + 6) else {
-            return Count::Broken;
-        };
+        let end = inners(s, count, at + 6)?;
         n += kept(s, at, o, count);
         at = end;
     }
-    Count::Of(n)
+    Some(n)
 }

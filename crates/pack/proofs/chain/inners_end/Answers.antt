@@ -9,25 +9,25 @@ use native.Mathlib.Omega.{arith}
 use mathlib.Core.Path.{◌≡◌, ◌∙◌}
 use Rattle.pack.proofs.chain.inners_end.Goals as goal
 
-pub loop-j-init : goal.loop-j-init
-loop-j-init c = simp sub-zero
+pub loop-init : goal.loop-init
+loop-init c = simp sub-zero
 
 pub overflow_add-to : goal.overflow_add-to
-overflow_add-to c = let l = c.loop-j in let a = c.args in let g = inners-grow a.s.now (a.n - l.j) l.to in omega (arith, c.loop-j.invariant)
+overflow_add-to c = let l = c.loop in let a = c.args in let g = inners-grow a.s.now (a.n - l.counter) l.to in omega (arith, c.loop.invariant)
 
 pub item_end-to-requires : goal.item_end-to-requires
-item_end-to-requires c = let l = c.loop-j in let a = c.args in let g = inners-grow a.s.now (a.n - l.j) l.to in omega (arith, c.loop-j.invariant)
+item_end-to-requires c = let l = c.loop in let a = c.args in let g = inners-grow a.s.now (a.n - l.counter) l.to in omega (arith, c.loop.invariant)
 
-pub loop-j-preserved : goal.loop-j-preserved
-loop-j-preserved c =
-    let l = c.loop-j in
+pub loop-preserved : goal.loop-preserved
+loop-preserved c =
+    let l = c.loop in
     let a = c.args in
-    rw c.item_end-to.ensures (member-end (λ (x : ℕ). x) a.s.now 0 0 a.n l.j l.to (omega arith) ∙ l.invariant)
+    rw c.item_end-to.ensures (member-end (λ (x : ℕ). x) a.s.now 0 0 a.n l.counter l.to (omega arith) ∙ l.invariant)
 
 pub returns : goal.returns
 unfolding inners_end
 returns c =
-    let l = c.loop-j in
+    let l = c.loop in
     let a = c.args in
-    let z : a.n - l.j ≡ 0 = omega arith in
+    let z : a.n - l.counter ≡ 0 = omega arith in
     rw z at l.invariant

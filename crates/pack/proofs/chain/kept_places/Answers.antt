@@ -2,7 +2,8 @@
 -- Assumes nothing.
 use Rattle.pack.specs.Items.{group_end, groups_from}
 use Rattle.pack.specs.Loops.{kept_from}
-use Rattle.pack.proofs.Places.{sets-cons, Next, next-group, groups-nil, kept_cons, kept-skip}
+use Rattle.pack.proofs.Stores.{sets-cons}
+use Rattle.pack.proofs.Places.{Next, next-group, groups-nil, kept_cons, kept-skip}
 use Prim.Native.Nat.{ℕ, suc, ◌-◌}
 use native.Mathlib.Nat.{zero-add, add-zero}
 use native.Mathlib.Omega.{arith}

@@ -1,7 +1,7 @@
--- Writing the instructions that are left from here leaves what writing all of them leaves, in each of the four arrays.
+-- Writing the instructions that are left from here leaves what writing all of them leaves, in both arrays.
 -- Assumes nothing.
 use Rattle.pack.specs.Items.{group_end}
-use Rattle.pack.specs.Layout.{raised, at_of, outer_of, inner_of, height_of}
+use Rattle.pack.specs.Layout.{raised, at_of, place_held}
 use Rattle.pack.proofs.Walk.{inners-grow, inners-length}
 use Rattle.pack.proofs.Counting.{numbered-length}
 use Rattle.pack.proofs.Places.{group-grows, member-next, member-end, member-last}
@@ -20,20 +20,16 @@ reach c =
     let l = c.loop-j in
     let q = c.requires in
     let g = inners-grow c.args.s.now (c.u16_at-count.result - l.j) l.to in
-    omega (arith, l.invariant.1, q.1)
-
-pub overflow_add-g : goal.overflow_add-g
-overflow_add-g c = omega (arith, group-grows c.args.s.now c.args.g)
+    omega (arith, l.invariant.ends, q.1)
 
 pub overflow_add-to : goal.overflow_add-to
 overflow_add-to c = omega (arith, group-grows c.args.s.now c.args.g)
 
-pub loop-j-init : goal.loop-j-init
-unfolding group_end
-loop-j-init c = simp (sub-zero, add-zero) (omega arith, rw c.u16_at-count.ensures, refl, refl, refl, refl)
+pub overflow_add-g : goal.overflow_add-g
+overflow_add-g c = omega (arith, group-grows c.args.s.now c.args.g)
 
-pub height_code-h-requires : goal.height_code-h-requires
-height_code-h-requires c = omega (arith, reach (goal.at.height_code-h-requires c).In-loop-j)
+pub height_code-requires : goal.height_code-requires
+height_code-requires c = omega (arith, reach (goal.at.height_code-requires c).In-loop-j)
 
 pub overflow_add-header : goal.overflow_add-header
 overflow_add-header c = omega (arith, reach (goal.at.overflow_add-header c).In-loop-j)
@@ -47,6 +43,10 @@ overflow_cast-at c = omega (arith, reach (goal.at.overflow_cast-at c).In-loop-j)
 pub item_end-to-requires : goal.item_end-to-requires
 item_end-to-requires c = omega (arith, reach (goal.at.item_end-to-requires c).In-loop-j)
 
+pub loop-j-init : goal.loop-j-init
+unfolding group_end
+loop-j-init c = record { ends = simp sub-zero (rw c.u16_at-count.ensures); ats = simp (sub-zero, add-zero); runs = simp (sub-zero, add-zero) }
+
 pub loop-j-preserved : goal.loop-j-preserved
 unfolding raised
 loop-j-preserved c =
@@ -57,14 +57,12 @@ loop-j-preserved c =
     let m = l.j in
     let r : ℕ → ℕ = λ (x : ℕ). a.way.base + x in
     let e = c.item_end-to.ensures in
-    let step = member-next r s a.way.outer a.way.place n m l.to (omega arith) in (
-      omega arith,
-      rw e (member-end r s a.way.outer a.way.place n m l.to (omega arith) ∙ l.invariant.1),
-      rw e (step at_of l.at (a.way.base + (l.to + 5)) refl ∙ l.invariant.2),
-      rw e (step outer_of l.outer a.way.outer refl ∙ l.invariant.3),
-      rw e (step inner_of l.inner (m + 1) (add-one m) ∙ l.invariant.4),
-      rw e (step height_of l.height c.height_code-h.result c.height_code-h.ensures ∙ l.invariant.5),
-    )
+    let last = member-end r s a.way.outer a.way.index n m l.to (omega arith) in
+    record {
+      ends = rw e (last ∙ l.invariant.ends);
+      ats = rw e (member-next r s a.way.outer a.way.index n m l.to (omega arith) at_of l.at (a.way.base + (l.to + 5)) refl ∙ l.invariant.ats);
+      runs = rw e (member-next r s a.way.outer a.way.index n m l.to (omega arith) place_held l.places _ (rw (c.height_code.ensures, add-one m)) ∙ l.invariant.runs);
+    }
 
 pub returns : goal.returns
 returns c =
@@ -73,12 +71,9 @@ returns c =
     let s = a.s.now in
     let u = c.u16_at-count in
     let r : ℕ → ℕ = λ (x : ℕ). a.way.base + x in
-    let last = member-last r s a.way.outer a.way.place u.result l.j l.to (omega arith) in
     rw (← u.ensures)
     (record {
       count = rw (numbered-length, inners-length);
-      ats = sym (last at_of l.at) ∙ l.invariant.2;
-      outers = sym (last outer_of l.outer) ∙ l.invariant.3;
-      inners = sym (last inner_of l.inner) ∙ l.invariant.4;
-      heights = sym (last height_of l.height) ∙ l.invariant.5;
+      ats = sym (member-last r s a.way.outer a.way.index u.result l.j l.to (omega arith) at_of l.at) ∙ l.invariant.ats;
+      runs = sym (member-last r s a.way.outer a.way.index u.result l.j l.to (omega arith) place_held l.places) ∙ l.invariant.runs;
     })

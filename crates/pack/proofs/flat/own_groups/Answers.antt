@@ -1,6 +1,6 @@
 -- The chain has come to the first group of outer i from place t on; writing the groups that are left leaves what writing all of them leaves.
 -- Assumes nothing.
-use Rattle.pack.specs.Layout.{inside_at, members_at, at_of, outer_of, inner_of, height_of}
+use Rattle.pack.specs.Layout.{inside_at, members_at, at_of, place_held}
 use Rattle.pack.proofs.Chains.{first-le, first-later, members-length, none-own, Found, found_at, nearer, wrote-more}
 use Rattle.wire.specs.Le.{le}
 use Rattle.pack.proofs.Places.{group-grows}
@@ -26,7 +26,7 @@ pub loop-c-init : goal.loop-c-init
 loop-c-init c =
     let ch = c.requires.chained in
     let e = ch.complete c.args.way.base in
-    (ch, 0, ch.head, rw e, rw e, rw e, rw e, rw e)
+    (ch, 0, ch.head, rw e, rw e, rw e)
 
 pub offset_bounds-place-c : goal.offset_bounds-place-c
 offset_bounds-place-c c = omega (arith, early (goal.at.offset_bounds-place-c c).In-loop-c)
@@ -102,9 +102,7 @@ loop-c-preserved c =
       ch.links m y.in_list ∙ rw y.names,
       omega (arith, w, v.count, l.invariant.3),
       wrote-more at_of l.at _ l.k n xs rest v.ats v.count ∙ rw (← y.splits) l.invariant.4,
-      wrote-more outer_of l.outer _ l.k n xs rest v.outers v.count ∙ rw (← y.splits) l.invariant.5,
-      wrote-more inner_of l.inner _ l.k n xs rest v.inners v.count ∙ rw (← y.splits) l.invariant.6,
-      wrote-more height_of l.height _ l.k n xs rest v.heights v.count ∙ rw (← y.splits) l.invariant.7,
+      wrote-more place_held l.places _ l.k n xs rest v.runs v.count ∙ rw (← y.splits) l.invariant.5,
     )
 
 pub returns : goal.returns
@@ -116,7 +114,5 @@ returns c =
     record {
       count = sym (add-zero l.k) ∙ rw e at l.invariant.3;
       ats = rw e at l.invariant.4;
-      outers = rw e at l.invariant.5;
-      inners = rw e at l.invariant.6;
-      heights = rw e at l.invariant.7;
+      runs = rw e at l.invariant.5;
     }

@@ -2,7 +2,7 @@
 -- Assumes nothing.
 use Rattle.pack.specs.Invocation.{Position}
 use Rattle.pack.specs.Items.{groups_at}
-use Rattle.pack.specs.Layout.{inside_at, at_of, outer_of, inner_of, height_of}
+use Rattle.pack.specs.Layout.{inside_at, at_of, place_held}
 use Rattle.pack.specs.Loops.{first_group_from, Chained}
 use Rattle.pack.proofs.Chains.{ahead}
 use Prim.Native.Nat.{ℕ, ◌+◌}
@@ -13,11 +13,11 @@ use lib.Seq.{sets}
 use Rattle.pack.proofs.flat.own_groups.Given as goal
 
 -- the groups that are left written into an array from here leave what all of them leave
-abbrev pub Rest : List ℕ → ℕ → ℕ → ℕ → ℕ → List ℕ → (Position × ℕ → ℕ) → List ℕ → List ℕ → Type 0
+abbrev pub Rest : {A : Type 0} → List ℕ → ℕ → ℕ → ℕ → ℕ → List ℕ → (Position × ℕ → A) → List A → List A → Type 0
 Rest s base i k n gs f l₀ l = sets l k (map f (inside_at s base i gs)) ≡ sets l₀ n (map f (inside_at s base i (groups_at s)))
 
 abbrev pub invariant-loop-c : goal.invariant-loop-c
-invariant-loop-c l = (ch : Chained l.s l.i l.place l.next l.initial.c) × (t : ℕ) × (l.c ≡ first_group_from l.s l.i t (drop t ch.gs)) × (l.k + length (inside_at l.s l.base l.i (drop t ch.gs)) ≡ l.initial.k + length (inside_at l.s l.base l.i (groups_at l.s))) × Rest l.s l.base l.i l.k l.initial.k (drop t ch.gs) at_of l.initial.at l.at × Rest l.s l.base l.i l.k l.initial.k (drop t ch.gs) outer_of l.initial.outer l.outer × Rest l.s l.base l.i l.k l.initial.k (drop t ch.gs) inner_of l.initial.inner l.inner × Rest l.s l.base l.i l.k l.initial.k (drop t ch.gs) height_of l.initial.height l.height
+invariant-loop-c l = (ch : Chained l.s l.i l.place l.next l.initial.c) × (t : ℕ) × (l.c ≡ first_group_from l.s l.i t (drop t ch.gs)) × (l.k + length (inside_at l.s l.base l.i (drop t ch.gs)) ≡ l.initial.k + length (inside_at l.s l.base l.i (groups_at l.s))) × Rest l.s l.base l.i l.k l.initial.k (drop t ch.gs) at_of l.initial.at l.at × Rest l.s l.base l.i l.k l.initial.k (drop t ch.gs) place_held l.initial.places l.places
 
 abbrev pub decreases-loop-c : goal.decreases-loop-c
 decreases-loop-c l = ahead l.c

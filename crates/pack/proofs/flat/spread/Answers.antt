@@ -4,7 +4,7 @@ use Rattle.pack.specs.Invocation.{Position}
 use Rattle.pack.specs.Items.{item_end, outers_at, groups_at}
 use Rattle.pack.specs.Flatten.{inside, outermost}
 use Rattle.pack.specs.Loops.{Chained}
-use Rattle.pack.specs.Layout.{placed_at, raised, at_of, outer_of, inner_of, height_of}
+use Rattle.pack.specs.Layout.{placed_at, raised, at_of, place_held}
 use Rattle.pack.proofs.Places.{Reached, reached-first, reached-next}
 use Rattle.pack.proofs.Chains.{first-le}
 use Rattle.pack.proofs.Filled.{Ready, ready}
@@ -76,7 +76,7 @@ chain c = (opened c).chains c.loop-to.i (reach c).2
 
 pub loop-to-init : goal.loop-to-init
 loop-to-init c =
-    (reached-first c.section-outs.result.now (known (goal.at.loop-to-init c).After-start-base).whole, omega arith, simp (sub-zero, zero-add), simp sub-zero, simp sub-zero, simp sub-zero, simp sub-zero)
+    (reached-first c.section-outs.result.now (known (goal.at.loop-to-init c).After-start-base).whole, omega arith, simp (sub-zero, zero-add), simp sub-zero, simp sub-zero)
 
 pub overflow_add-at : goal.overflow_add-at
 overflow_add-at c = omega (arith, (opened (goal.at.overflow_add-at c).In-loop-to).ends)
@@ -90,23 +90,11 @@ offset_bounds-at-n c = omega (arith, room (goal.at.offset_bounds-at-n c).In-loop
 pub bounds-at-n : goal.bounds-at-n
 bounds-at-n c = omega (arith, room (goal.at.bounds-at-n c).In-loop-to)
 
-pub offset_bounds-outer-n : goal.offset_bounds-outer-n
-offset_bounds-outer-n c = omega (arith, room (goal.at.offset_bounds-outer-n c).In-loop-to)
+pub offset_bounds-places-n : goal.offset_bounds-places-n
+offset_bounds-places-n c = omega (arith, room (goal.at.offset_bounds-places-n c).In-loop-to)
 
-pub bounds-outer-n : goal.bounds-outer-n
-bounds-outer-n c = omega (arith, room (goal.at.bounds-outer-n c).In-loop-to)
-
-pub offset_bounds-inner-n : goal.offset_bounds-inner-n
-offset_bounds-inner-n c = omega (arith, room (goal.at.offset_bounds-inner-n c).In-loop-to)
-
-pub bounds-inner-n : goal.bounds-inner-n
-bounds-inner-n c = omega (arith, room (goal.at.bounds-inner-n c).In-loop-to)
-
-pub offset_bounds-height-n : goal.offset_bounds-height-n
-offset_bounds-height-n c = omega (arith, room (goal.at.offset_bounds-height-n c).In-loop-to)
-
-pub bounds-height-n : goal.bounds-height-n
-bounds-height-n c = omega (arith, room (goal.at.bounds-height-n c).In-loop-to)
+pub bounds-places-n : goal.bounds-places-n
+bounds-places-n c = omega (arith, room (goal.at.bounds-places-n c).In-loop-to)
 
 pub overflow_add-n : goal.overflow_add-n
 overflow_add-n c = omega (arith, room (goal.at.overflow_add-n c).In-loop-to)
@@ -161,9 +149,7 @@ loop-to-preserved c =
       omega (arith, v.count),
       omega (arith, ap length y, v.count, l.invariant.2),
       wrote-outer at_of l.at _ l.n n (from-of t + l.to) x here rest all refl v.ats v.count y ∙ l.invariant.3,
-      wrote-outer outer_of l.outer _ l.n n l.i x here rest all refl v.outers v.count y ∙ l.invariant.4,
-      wrote-outer inner_of l.inner _ l.n n 0 x here rest all refl v.inners v.count y ∙ l.invariant.5,
-      wrote-outer height_of l.height _ l.n n 2 x here rest all refl v.heights v.count y ∙ l.invariant.6,
+      wrote-outer place_held l.places _ l.n n (place_held x) x here rest all refl v.runs v.count y ∙ l.invariant.4,
     )
 
 pub returns : goal.returns
@@ -174,7 +160,5 @@ returns c =
     (record {
       count = sym (add-zero l.n) ∙ rw e at l.invariant.2 ∙ sym (zero-add _);
       ats = rw e at l.invariant.3;
-      outers = rw e at l.invariant.4;
-      inners = rw e at l.invariant.5;
-      heights = rw e at l.invariant.6;
+      runs = rw e at l.invariant.4;
     })

@@ -16,7 +16,7 @@ unfolding ordered
 returns-then-start-ne0 c = let p = c.args.pack.now in rw (ne_eqb (start_of p 0) 0 (λ e. c.if-start-ne0.true (c.start.ensures ∙ e)))
 
 pub loop-k-init : goal.loop-k-init
-loop-k-init c = (omega arith, below_none _)
+loop-k-init c = below_none _
 
 pub returns-then-start : goal.returns-then-start
 unfolding ordered
@@ -33,7 +33,7 @@ loop-k-preserved c =
     let l = c.loop-k in
     let e : leb (start_of p l.k) (start_of p (l.k + 1)) ≡ true =
     le-leb (start_of p l.k) (start_of p (l.k + 1)) (omega (arith, c.start-in-loop-k.ensures, c.start-in-loop-k-2.ensures)) in
-    (omega arith, below_more _ _ l.invariant.1 e)
+    below_more _ _ l.invariant e
 
 pub returns : goal.returns
 unfolding ordered
@@ -41,4 +41,4 @@ returns c =
     let p = c.args.pack.now in
     let l = c.loop-k in
     rw
-    (eq-eqb (start_of p 0) 0 (sym c.start.ensures ∙ c.if-start-ne0.false), all-below (λ k. leb (start_of p k) (start_of p (k + 1))) 5 (λ k h. l.invariant.1 k (omega arith)))
+    (eq-eqb (start_of p 0) 0 (sym c.start.ensures ∙ c.if-start-ne0.false), all-below (λ k. leb (start_of p k) (start_of p (k + 1))) 5 (λ k h. l.invariant k (omega arith)))

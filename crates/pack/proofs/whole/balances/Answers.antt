@@ -19,7 +19,7 @@ asked : (s : List ℕ) (keys i : ℕ) → i < length s / 36 → ltb (get_or (bal
 asked s keys i h = rw (balance-row s i (0, []) h)
 
 pub loop-i-init : goal.loop-i-init
-loop-i-init c = (omega arith, below_none _)
+loop-i-init c = below_none _
 
 pub returns-then-keys-four : goal.returns-then-keys-four
 unfolding balances_named
@@ -34,7 +34,7 @@ pub loop-i-preserved : goal.loop-i-preserved
 loop-i-preserved c =
     let a = c.args in
     let l = c.loop-i in
-    (omega arith, below_more _ _ l.invariant.1 (lt-ltb (le 4 a.s.now (l.i * 36)) a.keys (omega (arith, c.four.ensures, c.if-keys-four.false))))
+    (below_more _ _ l.invariant (lt-ltb (le 4 a.s.now (l.i * 36)) a.keys (omega (arith, c.four.ensures, c.if-keys-four.false))))
 
 pub returns : goal.returns
 unfolding balances_named
@@ -42,5 +42,5 @@ returns c =
     let a = c.args in
     let s = a.s.now in
     let l = c.loop-i in
-    let all = all-below (λ i. ltb (get_or (balances_in s) i (0, [])).0 a.keys) (length s / 36) (λ i h. asked s a.keys i h ∙ l.invariant.1 i (omega arith)) in
+    let all = all-below (λ i. ltb (get_or (balances_in s) i (0, [])).0 a.keys) (length s / 36) (λ i h. asked s a.keys i h ∙ l.invariant i (omega arith)) in
     rw (balances-length s, all)

@@ -25,14 +25,14 @@ here c = c.loop-at.at
 
 -- where the walk over its instructions came to
 abbrev end : After-kept-n → ℕ
-end c = c.in-To.end
+end c = c.in_ok-end.end
 
 -- that is the group's end, in the section
 passed : (c : After-kept-n)
     → (group_good (section c) (here c) ≡ true) × (end c ≡ group_end (section c) (here c)) × (end c ≤ length (section c)) × (here c + 6 + 13 * count_at (section c) (here c) ≤ end c)
 passed c =
     group-passed (section c) (here c) (omega arith) (end c)
-    (rw (← c.u16_at-count.ensures) (sym c.in-To.is ∙ c.inners.ensures))
+    (rw (← c.u16_at-count.ensures) (sym c.in_ok-end.was ∙ c.inners.ensures))
 
 -- whether it names an outer instruction
 abbrev named : After-kept-n → Bool
@@ -55,13 +55,13 @@ returns-then-s-at-lt6 c =
     let a = c.args in
     sym (groups-cut a.s.now a.o l.invariant.2.0 (l.invariant.2.0 - 1) l.at l.n (omega (arith, l.invariant.2.1)) (omega arith) (rw (lt-leb (l.at + 6) (length a.s.now) (omega arith)))) ∙ l.invariant.2.2 ∙ rw zero-add
 
-pub returns-in_default : goal.returns-in_default
+pub returns-in_err-end : goal.returns-in_err-end
 unfolding groups_in group_good
-returns-in_default c =
+returns-in_err-end c =
     let l = c.loop-at in
     let a = c.args in
-    let bad = group-cut a.s.now l.at (omega arith) (rw (← c.u16_at-count.ensures) (sym c.in_default.is ∙ c.inners.ensures)) in
-    sym (groups-cut a.s.now a.o l.invariant.2.0 (l.invariant.2.0 - 1) l.at l.n (omega (arith, l.invariant.2.1)) (omega arith) bad) ∙ l.invariant.2.2 ∙ rw zero-add
+    let bad = group-cut a.s.now l.at (omega arith) (rw (← c.u16_at-count.ensures) (sym c.in_err-end.was ∙ c.inners.ensures)) in
+    rw c.from_residual.ensures (sym (groups-cut a.s.now a.o l.invariant.2.0 (l.invariant.2.0 - 1) l.at l.n (omega (arith, l.invariant.2.1)) (omega arith) bad) ∙ l.invariant.2.2 ∙ rw zero-add)
 
 pub overflow_add-n : goal.overflow_add-n
 overflow_add-n c = omega (arith, (passed (goal.at.overflow_add-n c).After-kept-n).2, (passed (goal.at.overflow_add-n c).After-kept-n).3, few (goal.at.overflow_add-n c).After-kept-n)

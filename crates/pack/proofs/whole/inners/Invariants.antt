@@ -6,8 +6,5 @@ use mathlib.Core.Path.{◌≡◌}
 use lib.ListN.{length}
 use Rattle.pack.proofs.whole.inners.Given as goal
 
-abbrev pub invariant-loop-j : goal.invariant-loop-j
-invariant-loop-j l = (l.to ≤ length l.s) × (inners_walk l.s (l.n - l.j) l.to ≡ inners_walk l.s l.n l.at)
-
-abbrev pub decreases-loop-j : goal.decreases-loop-j
-decreases-loop-j l = l.n - l.j
+abbrev pub invariant-loop : goal.invariant-loop
+invariant-loop l = (l.to ≤ length l.s) × (inners_walk l.s (l.n - l.counter) l.to ≡ inners_walk l.s l.n l.at)

@@ -15,7 +15,7 @@ unfolding keys_fill rows_fill
 returns-then-s-ne0 c = rw (ne_eqb (length c.args.s.now % 33) 0 c.if-s-ne0.true)
 
 pub loop-i-init : goal.loop-i-init
-loop-i-init c = (omega arith, below_none _)
+loop-i-init c = below_none _
 
 pub returns-then-s-i-gt1 : goal.returns-then-s-i-gt1
 unfolding keys_fill rows_fill
@@ -27,11 +27,11 @@ returns-then-s-i-gt1 c =
 pub loop-i-preserved : goal.loop-i-preserved
 loop-i-preserved c =
     let l = c.loop-i in
-    (omega arith, below_more _ _ l.invariant.1 (le-leb _ _ c.if-s-i-gt1.false))
+    (below_more _ _ l.invariant (le-leb _ _ c.if-s-i-gt1.false))
 
 pub returns : goal.returns
 unfolding keys_fill rows_fill
 returns c =
     let s = c.args.s.now in
     let l = c.loop-i in
-    rw (eq-eqb (length s % 33) 0 c.if-s-ne0.false, all-below (λ i. leb (get_or s (i * 33) 0) 1) (length s / 33) (λ i h. l.invariant.1 i (omega arith)))
+    rw (eq-eqb (length s % 33) 0 c.if-s-ne0.false, all-below (λ i. leb (get_or s (i * 33) 0) 1) (length s / 33) (λ i h. l.invariant i (omega arith)))
