@@ -1,46 +1,48 @@
--- The positions that arrays hold, and arrays filled from the last place backwards: lists with the same elements are the same.
+-- The positions that places stand for, and arrays filled from the last place backwards: lists with the same elements are the same.
 -- Assumes nothing.
 use mathlib.Core.Path.{◌≡◌, sym, ap, ◌∙◌}
 use mathlib.Core.Bool.{Bool}
 use mathlib.Core.Logic.{◌⊎◌, inl, inr}
 use mathlib.Core.List.{List, ◌++◌}
 use mathlib.Core.Option.{none}
-use Prim.Native.Nat.{ℕ, ◌+◌, ◌-◌, ◌≤◌, ◌<◌}
+use Prim.Native.Nat.{ℕ, ◌+◌, ◌-◌, ◌≤◌, ◌<◌, min}
 use native.Mathlib.Nat.{zero-add, eq-or-lt_of_le}
 use native.Mathlib.Omega.{arith}
 use borrow.Author.Tests.{lt-ltb, le-ltb}
+use Rattle.std.proofs.lemmas.Bool.Decides.{nat_tests}
 use lib.ListN.{length, get_or, set, length-append, length-replicate, get_or-append}
 use lib.Seq.{ext_get_or, get_or-append-add, get_or-set_same, get_or-set_other}
 use Rattle.wire.specs.Zeros.{zeros}
 use Rattle.wire.proofs.Zeros.{zeros-at}
 use Rattle.wire.proofs.Tab.{tab-length, tab-at}
-use Rattle.pack.specs.Invocation.{Position, position_at}
+use Rattle.pack.specs.declared.position.Place.{Place}
+use Rattle.pack.specs.Invocation.{Position, position_in_places}
 use Rattle.subtrees.specs.Descendant.{descendant}
 use Rattle.subtrees.proofs.Ranges.{lt-or-ge}
 use Rattle.subtrees.proofs.Blocks.{after}
 use Rattle.wire.specs.Tab.{tab}
 use Rattle.subtrees.specs.Subtrees.{position_in, within, end_of, inside_of, positions, taken, filled, Known}
 
-module _ (outer inner height : List ℕ) (n : ℕ) where
-  pub positions-length : length (positions outer inner height n) ≡ n
+module _ (places : List Place) (n : ℕ) where
+  pub positions-length : length (positions places n) ≡ n
   unfolding positions
-  positions-length = tab-length (position_at outer inner height) 0 n
+  positions-length = tab-length (position_in_places places) 0 n
 
-  place_at : (k : ℕ) → k < n → position_in (positions outer inner height n) k ≡ position_at outer inner height k
+  place_at : (k : ℕ) → k < n → position_in (positions places n) k ≡ position_in_places places k
   unfolding position_in positions
-  place_at k l = tab-at (position_at outer inner height) (record { outer = 0; inner = none; height = none }) 0 n k l ∙ rw zero-add
+  place_at k l = tab-at (position_in_places places) (record { outer = 0; inner = none; height = none }) 0 n k l ∙ rw zero-add
 
-  -- the relation by what the arrays hold
+  -- the relation by what the array holds
   pub within-at : (i x : ℕ) (r : Bool) → i < n → x < n
-      → r ≡ descendant (position_at outer inner height i) (position_at outer inner height x) → within (positions outer inner height n) i x ≡ r
+      → r ≡ descendant (position_in_places places i) (position_in_places places x) → within (positions places n) i x ≡ r
   unfolding within
   within-at i x r l k e = rw (place_at i l, place_at x k) (sym e)
 
   -- a known end lies after its invocation, and is at most n
-  pub known-end : (own ends inside : List ℕ) (at e : ℕ) → Known (positions outer inner height n) own ends inside at → at ≤ e → e < n
+  pub known-end : (own ends inside : List ℕ) (at e : ℕ) → Known (positions places n) own ends inside at → at ≤ e → e < n
       → (e + 1 ≤ get_or ends e 0) × (get_or ends e 0 ≤ n)
   known-end own ends inside at e known p l =
-      let ps = positions outer inner height n in
+      let ps = positions places n in
       let len : length ps ≡ n = positions-length in
       let w = after (length ps) (within ps) e (omega arith) in
       let k = known e p (omega arith) in
@@ -95,3 +97,8 @@ taken-all n l = rw (le-ltb 1024 n l)
 pub taken-most : (n : ℕ) → 1024 < n → taken n ≡ 1024
 unfolding taken
 taken-most n l = rw (lt-ltb 1024 n l)
+
+-- how the code says it
+pub taken_min : (n : ℕ) → min n 1024 ≡ taken n
+unfolding taken
+taken_min n = grind (arith, nat_tests)

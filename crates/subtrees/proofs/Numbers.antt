@@ -1,14 +1,17 @@
 -- `descendant` and the bits on the numbers that the arrays hold: these are one higher, with 0 for none, which keeps their order.
 -- Assumes nothing.
-use mathlib.Core.Path.{◌≡◌, refl, sym, ◌∙◌}
+use mathlib.Core.Path.{◌≡◌, refl, sym, ap₂, ◌∙◌}
 use mathlib.Core.Bool.{Bool, true, false, cond, ◌&&◌, ◌||◌}
-use Prim.Native.Nat.{ℕ, zero, suc, ◌+◌, ◌*◌, ◌/◌, ◌%◌, ◌≤◌}
+use Prim.Native.Nat.{ℕ, zero, suc, ◌*◌, ◌/◌, ◌%◌, ◌≤◌}
 use native.Mathlib.Omega.{arith}
 use borrow.Author.Tests.{lt-ltb, le-ltb, ne_eqb, eqb-true, eqb-false}
 use lib.Dec.{ltb, eqb, leb-suc-suc}
-use Rattle.pack.specs.Invocation.{lowered}
+use lib.Bits.{bit_and, bit_or}
+use Rattle.std.proofs.lemmas.Nat.{and_mask, or_mod, or_shr}
+use Rattle.pack.specs.declared.position.Place.{Place}
+use Rattle.pack.specs.Invocation.{lowered, position_of}
 use Rattle.subtrees.specs.Descendant.{higher, inners, descendant}
-use Rattle.subtrees.specs.Subtrees.{position_of, odd, joined}
+use Rattle.subtrees.specs.Subtrees.{odd, joined}
 
 ltb-suc : (a b : ℕ) → ltb a b ≡ ltb (suc a) (suc b)
 ltb-suc a b = sym (leb-suc-suc (suc a) b)
@@ -22,18 +25,19 @@ higher-raised (suc a) zero = sym (rw (le-ltb (suc a) 0 (omega arith), lt-ltb 0 (
 higher-raised (suc a) (suc b) = ltb-suc a b ∙ sym (rw (lt-ltb 0 (suc a) (omega arith)))
 
 -- an outer's inner index is 0
-inners-raised : (a b : ℕ) (up : Bool) → inners (lowered a) (lowered b) up ≡ cond (eqb a 0) (ltb 0 b) (ltb a b && up)
+inners-raised : (a b : ℕ) (up : Bool) → inners (lowered a) (lowered b) up ≡ (ltb a b && (eqb a 0 || up))
 unfolding inners lowered
 inners-raised zero zero up = refl
 inners-raised zero (suc b) up = sym (rw (lt-ltb 0 (suc b) (omega arith)))
-inners-raised (suc a) zero up = sym (rw (ne_eqb (suc a) 0 (λ e. omega arith), le-ltb (suc a) 0 (omega arith)))
+inners-raised (suc a) zero up = sym (rw (le-ltb (suc a) 0 (omega arith)))
 inners-raised (suc a) (suc b) up = rw (ltb-suc a b) (sym (rw (ne_eqb (suc a) 0 (λ e. omega arith))))
 
 -- the definition in the order of the code's tests
-pub descendant-raised : (po pi ph co ci ch : ℕ)
-    → descendant (position_of po pi ph) (position_of co ci ch) ≡ (eqb po co && cond (eqb pi 0) (ltb 0 ci) (ltb pi ci && (ltb 0 ph && ltb ph ch)))
-unfolding descendant
-descendant-raised po pi ph co ci ch = rw (inners-raised pi ci (higher (lowered ph) (lowered ch)), higher-raised ph ch)
+pub descendant-raised : (p c : Place)
+    → descendant (position_of p) (position_of c)
+    ≡ (eqb p.outer c.outer && (ltb p.inner c.inner && (eqb p.inner 0 || (ltb 0 p.height && ltb p.height c.height))))
+unfolding descendant position_of
+descendant-raised p c = rw (inners-raised p.inner c.inner (higher (lowered p.height) (lowered c.height)), higher-raised p.height c.height)
 
 -- the last bit as a number
 pub last_bit : (b : ℕ) → b % 2 ≡ cond (odd b) 1 0
@@ -45,15 +49,29 @@ last_bit b = go (odd b) refl
         let no = eqb-false (b % 2) 1 e in
         omega arith
 
-pub pick-le : (t : Bool) → cond t 1 0 ≤ 1
-pick-le true = omega arith
-pick-le false = omega arith
+-- the last bit of two numbers or-ed
+or-odd : (a b : ℕ) → bit_or a b % 2 ≡ cond (odd a || odd b) 1 0
+or-odd a b = or_mod a b 1 ∙ ap₂ bit_or (last_bit a) (last_bit b) ∙ both (odd a) (odd b)
+  where
+    both : (s t : Bool) → bit_or (cond s 1 0) (cond t 1 0) ≡ cond (s || t) 1 0
+    both true true = refl
+    both true false = refl
+    both false true = refl
+    both false false = refl
 
 twice : (t : Bool) → cond t 1 0 * 2 ≡ cond t 2 0
 twice true = refl
 twice false = refl
 
--- the bits of two bytes, each from its own
-pub joined-parts : (a b : ℕ) → cond (odd a || odd b) 1 0 + cond (odd (a / 2) || odd (b / 2)) 1 0 * 2 ≡ joined a b
+-- the two low bits of two bytes or-ed
+pub or-joined : (a b : ℕ) → bit_and (bit_or a b) 3 ≡ joined a b
 unfolding joined
-joined-parts a b = rw (twice (odd (a / 2) || odd (b / 2)))
+or-joined a b =
+    let low : bit_and (bit_or a b) 3 ≡ bit_or a b % 4 = and_mask (bit_or a b) 2 in
+    let last = or-odd a b in
+    let second = rw (← or_shr a b 1) at (or-odd (a / 2) (b / 2)) in
+    rw (← twice (odd (a / 2) || odd (b / 2))) (omega arith)
+
+pub pick-le : (t : Bool) → cond t 1 0 ≤ 1
+pick-le true = omega arith
+pick-le false = omega arith

@@ -4,7 +4,8 @@ use Rattle.std.specs.Prelude.{ℕ, ◌+◌, ◌-◌, ◌/◌, ◌%◌, ◌≤◌
 use Rattle.std.proofs.Math.Option.{none}
 use Rattle.wire.specs.Zeros.{zeros}
 use Rattle.wire.specs.Tab.{tab}
-use Rattle.pack.specs.Invocation.{Position, lowered, position_at}
+use Rattle.pack.specs.declared.position.Place.{Place}
+use Rattle.pack.specs.Invocation.{Position, position_in_places}
 use Rattle.subtrees.specs.Descendant.{descendant}
 use Rattle.subtrees.specs.Blocks.{any_in, end_at, some_in, tests_at, all_tests}
 use Rattle.subtrees.specs.Parents.{parent_at, holders_at, line_at}
@@ -76,13 +77,9 @@ tests_of ps = all_tests (length ps) (within ps)
 unfoldable pub taken : ℕ → ℕ
 taken n = cond (ltb 1024 n) 1024 n
 
--- the position that three numbers of the arrays stand for
-abbrev pub position_of : ℕ → ℕ → ℕ → Position
-position_of o i h = record { outer = o; inner = lowered i; height = lowered h }
-
--- the positions that three arrays hold at their first n places
-unfoldable pub positions : List ℕ → List ℕ → List ℕ → ℕ → List Position
-positions outer inner height n = tab (position_at outer inner height) 0 n
+-- the positions that the first n places of an array stand for
+unfoldable pub positions : List Place → ℕ → List Position
+positions places n = tab (position_in_places places) 0 n
 
 -- an array of 1,024: a list from its start on, and zeros after it
 unfoldable pub filled : List ℕ → List ℕ

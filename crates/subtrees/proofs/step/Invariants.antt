@@ -9,7 +9,7 @@ use Prim.Native.Nat.{◌+◌, ◌-◌, ◌≤◌}
 use Rattle.subtrees.proofs.step.Given as goal
 
 abbrev pub invariant-loop-e : goal.invariant-loop-e
-invariant-loop-e l = (l.i + 1 ≤ l.e) × (l.e ≤ l.n) × (l.tests + 1 ≤ l.e) × (length l.parents ≡ 1024) × Walk (positions l.outer l.inner l.height l.n) l.own l.i l.e l.bits l.tests l.parents
+invariant-loop-e l = (l.i + 1 ≤ l.e) × (l.e ≤ l.n) × (l.tests + 1 ≤ l.e) × (length l.parents ≡ 1024) × Walk (positions l.places l.n) l.own l.i l.e l.bits l.tests l.parents
 
 abbrev pub decreases-loop-e : goal.decreases-loop-e
 decreases-loop-e l = l.n - l.e

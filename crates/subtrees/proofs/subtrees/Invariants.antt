@@ -5,15 +5,11 @@ use Rattle.subtrees.specs.Subtrees.{positions}
 use lib.ListN.{length}
 use mathlib.Core.Path.{◌≡◌}
 use Prim.Native.Nat.{◌-◌, ◌*◌, ◌≤◌}
-use Rattle.subtrees.proofs.fill.Given as goal
+use Rattle.subtrees.proofs.subtrees.Given as goal
 
 abbrev pub invariant-loop-i : goal.invariant-loop-i
-invariant-loop-i l = (l.i ≤ l.n)
-    × (length l.ends ≡ 1024)
+invariant-loop-i l = (length l.ends ≡ 1024)
     × (length l.inside ≡ 1024)
     × (length l.parents ≡ 1024)
-    × (l.total ≤ 1024 * (l.n - l.i))
-    × Filling (positions l.outer l.inner l.height l.n) l.own l.ends l.inside l.parents l.total l.i
-
-abbrev pub decreases-loop-i : goal.decreases-loop-i
-decreases-loop-i l = l.i
+    × (l.total ≤ 1024 * (l.count - l.i))
+    × Filling (positions l.places l.count) l.own l.ends l.inside l.parents l.total l.i
