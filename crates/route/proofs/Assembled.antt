@@ -13,7 +13,9 @@ use lib.ListN.{length, get_or}
 use lib.Seq.{sets}
 use Rattle.wire.specs.Zeros.{zeros}
 use Rattle.ids.specs.Keys.{Key, key_of}
-use Rattle.pack.specs.Invocation.{Instruction, Position, position_at}
+use Rattle.ids.specs.declared.Id.{Id}
+use Rattle.pack.specs.Invocation.{Instruction, Position, position_in_places}
+use Rattle.pack.specs.declared.position.Place.{Place}
 use Rattle.token.specs.Transfers.{Transfer}
 use Rattle.token.specs.Reasons.{Tells, says_why, says_transfer}
 use Rattle.token.proofs.Reasons.{reason-tells}
@@ -67,13 +69,13 @@ inside-in : (ps : List Position) (own : List ℕ) (i : ℕ) → i < length ps �
 inside-in ps own i k = tab-at (inside_of ps own) 0 0 (length ps) i k ∙ rw zero-add
 
 -- the arrays that `put_own` and `subtrees` leave give the row of each invocation
-module _ (n tests : ℕ) (outer inner height programs reasons leg own ends inside parents : List ℕ) (few : n ≤ 1024) (owns : own ≡ sets (zeros 1024) 0 (owns_of reasons leg n)) (blocks : Subtrees (positions outer inner height n) own tests ends inside parents) where
+module _ (n tests : ℕ) (places : List Place) (programs : List Id) (reasons leg own ends inside parents : List ℕ) (few : n ≤ 1024) (owns : own ≡ sets (zeros 1024) 0 (owns_of reasons leg n)) (blocks : Subtrees (positions places n) own tests ends inside parents) where
   abbrev stood : List Position
-  stood = positions outer inner height n
+  stood = positions places n
 
   owned : (y : ℕ) → y < length stood → get_or own y 0 ≡ get_or (owns_of reasons leg (length stood)) y 0
   owned y h =
-      let k : y < n = omega (arith, positions-length outer inner height n) in
+      let k : y < n = omega (arith, positions-length places n) in
       array_at (zeros 1024) own (own_at reasons leg) n y owns few k ∙ sym (tab-at (own_at reasons leg) 0 0 (length stood) y h ∙ rw zero-add)
 
   insides : (i : ℕ) → i < length stood → get_or inside i 0 ≡ get_or (insides_of stood (owns_of reasons leg (length stood))) i 0
@@ -82,25 +84,25 @@ module _ (n tests : ℕ) (outer inner height programs reasons leg own ends insid
       ∙ sym (inside-in stood own i k)
       ∙ ap (λ (l : List ℕ). get_or l i 0) (insides-same stood own (owns_of reasons leg (length stood)) (λ y h. owned y h))
 
-  pub row_by : (i : ℕ) → i < n → invocation_row (position_at outer inner height i) (get_or ends i 0) (bits_at programs inside reasons leg i) (get_or leg i 0) (get_or parents i 0) (get_or reasons i 0) ≡ row_at stood programs reasons leg i
-  unfolding row_at bits_at position_in positions position_at
+  pub row_by : (i : ℕ) → i < n → invocation_row (position_in_places places i) (get_or ends i 0) (bits_at programs inside reasons leg i) (get_or leg i 0) (get_or parents i 0) (get_or reasons i 0) ≡ row_at stood programs reasons leg i
+  unfolding row_at bits_at position_in positions position_in_places
   row_by i h =
-      let k : i < length stood = omega (arith, positions-length outer inner height n) in
-      let q : position_at outer inner height i ≡ position_in stood i = sym (tab-at (position_at outer inner height) _ 0 n i h ∙ rw zero-add) in
+      let k : i < length stood = omega (arith, positions-length places n) in
+      let q : position_in_places places i ≡ position_in stood i = sym (tab-at (position_in_places places) _ 0 n i h ∙ rw zero-add) in
       rw (q, end-at blocks i k, insides i k, parent-at blocks i k)
 
 -- what the arrays hold, over the n instructions at the offsets of pack p; table is the rows of table 0
-pub record ArraysGathered (names ks p : List ℕ) (pools : List Key) (table : List MintRow) (n : ℕ) (at programs reasons leg : List ℕ) : Type 0 where
+pub record ArraysGathered (names ks p : List ℕ) (pools : List Key) (table : List MintRow) (n : ℕ) (at : List ℕ) (programs : List Id) (reasons leg : List ℕ) : Type 0 where
   pub known : Programs ks (item_at p at) n programs
   pub reasoned : (i : ℕ) → i < n → get_or reasons i 0 ≡ reason_in ks (item_at p at i)
   pub numbers : (i : ℕ) → i < n → get_or leg i 0 ≡ row_number_at (leg_rows names ks pools table) (item_at p at) i
 
-module _ (names ks p : List ℕ) (pools : List Key) (table : List MintRow) (n : ℕ) (at programs outer inner height reasons leg : List ℕ) (g : ArraysGathered names ks p pools table n at programs reasons leg) where
+module _ (names ks p : List ℕ) (pools : List Key) (table : List MintRow) (n : ℕ) (at : List ℕ) (programs : List Id) (places : List Place) (reasons leg : List ℕ) (g : ArraysGathered names ks p pools table n at programs reasons leg) where
   abbrev xs : List Instruction
   xs = tab (item_at p at) 0 n
 
   abbrev ps : List Position
-  ps = positions outer inner height n
+  ps = positions places n
 
   here : (i : ℕ) → i < n → item xs i ≡ item_at p at i
   unfolding item
@@ -120,13 +122,13 @@ module _ (names ks p : List ℕ) (pools : List Key) (table : List MintRow) (n : 
 
   owns-same : (y : ℕ) → y < length ps → get_or (owns_of reasons leg (length ps)) y 0 ≡ get_or (map (own_of names ks pools table) xs) y 0
   owns-same y h =
-      let k : y < n = omega (arith, positions-length outer inner height n) in
+      let k : y < n = omega (arith, positions-length places n) in
       tab-at (own_at reasons leg) 0 0 (length ps) y h
       ∙ rw zero-add (own_is y k ∙ sym (rw (map-tab (own_of names ks pools table) (item_at p at) 0 n) (tab-at _ 0 0 n y k ∙ rw zero-add)))
 
   inside_is : (i : ℕ) → i < n → get_or (insides_of ps (owns_of reasons leg (length ps))) i 0 ≡ inside_of ps (map (own_of names ks pools table) xs) i
   inside_is i h =
-      let k : i < length ps = omega (arith, positions-length outer inner height n) in
+      let k : i < length ps = omega (arith, positions-length places n) in
       ap (λ (l : List ℕ). get_or l i 0) (insides-same ps (owns_of reasons leg (length ps)) (map (own_of names ks pools table) xs) (λ y q. owns-same y q))
       ∙ inside-in ps (map (own_of names ks pools table) xs) i k
 
@@ -150,4 +152,4 @@ module _ (names ks p : List ℕ) (pools : List Key) (table : List MintRow) (n : 
 
   -- so are all of them
   pub rows_are : tab (row_at ps programs reasons leg) 0 (length ps) ≡ tab (invocation_at names ks pools table ps xs) 0 (length xs)
-  rows_are = rw (positions-length outer inner height n) (tab-same _ _ 0 n (λ k h l. row_is k (omega arith)) ∙ rw (tab-length (item_at p at) 0 n))
+  rows_are = rw (positions-length places n) (tab-same _ _ 0 n (λ k h l. row_is k (omega arith)) ∙ rw (tab-length (item_at p at) 0 n))

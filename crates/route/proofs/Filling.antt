@@ -7,14 +7,16 @@ use Prim.Native.Nat.{ℕ, ◌-◌, ◌%◌, ◌≤◌}
 use native.Mathlib.Nat.{sub-zero, zero-add}
 use native.Mathlib.Omega.{arith}
 use borrow.Author.Tests.{eqb-true}
-use lib.ListN.{length, get_or, take, drop, length-replicate}
+use lib.ListN.{length, get_or, take, drop, replicate, length-replicate}
 use lib.Seq.{sets, length-sets, take_all, length-take-le, get_or-take}
 use Rattle.wire.proofs.Below.{and_left}
 use Rattle.wire.proofs.Sets.{sets-in}
 use Rattle.wire.specs.Zeros.{zeros}
 use Rattle.ids.specs.Keys.{key_of, key_count}
-use Rattle.ids.specs.Which.{of_number}
-use Rattle.pack.specs.Invocation.{Invocation, instruction_at, position_at}
+use Rattle.ids.specs.declared.Id.{Id}
+use Rattle.ids.specs.declared.Id.TheVariants.{Unresolved}
+use Rattle.pack.specs.Invocation.{Invocation, instruction_at, position_in_places}
+use Rattle.pack.specs.declared.position.Place.{Place}
 use Rattle.pack.specs.Sections.{section_of}
 use Rattle.pack.specs.Items.{keys_fill, rows_fill}
 use Rattle.pack.specs.View.{view_of, pools_in}
@@ -28,7 +30,9 @@ use Rattle.mints.specs.Inference.{inferred_in, answer_of, mint_bytes, final_of}
 use Rattle.mints.specs.Programs.{programs_of}
 use Rattle.mints.proofs.Programs.{programs-length, kept-program}
 use Rattle.mints.specs.Bytes.{table_bytes, mints_of}
-use Rattle.mints.specs.declared.Inferred.{Inferred}
+use Rattle.mints.specs.declared.Made.{Made}
+use Rattle.mints.specs.declared.TooManyPasses.{TooManyPasses}
+use Rattle.std.specs.Prelude.{Result}
 use Rattle.wire.specs.Tab.{tab}
 use Rattle.subtrees.specs.Subtrees.{positions}
 use Rattle.route.specs.Arrays.{item_at}
@@ -51,22 +55,22 @@ pub pools-are : (p : List ℕ) → pools_in (section_of p 4) ≡ (view_of p).poo
 unfolding view_of
 pools-are p = refl
 
-module _ (p : List ℕ) (n : ℕ) (at outer inner height : List ℕ) (e : refusal_number (verdict p) ≡ 0) (w : Flattened p n at outer inner height) where
+module _ (p : List ℕ) (n : ℕ) (at : List ℕ) (places : List Place) (e : refusal_number (verdict p) ≡ 0) (w : Flattened p n at places) where
   pub few : n ≤ 1024
-  few = omega (arith, count-is p n at outer inner height e w, (passed p e).few)
+  few = omega (arith, count-is p n at places e w, (passed p e).few)
 
   pub at_length : length at ≡ 1024
   at_length = ap length w.ats ∙ length-sets (zeros 1024) 0 (map at_of (layout p)) ∙ length-replicate {A = ℕ} 1024 0
 
   -- the invocations, entry by entry
-  listed : flatten (view_of p) ≡ tab (λ i. record { position = position_at outer inner height i; instruction = item_at p at i }) 0 n
+  listed : flatten (view_of p) ≡ tab (λ i. record { position = position_in_places places i; instruction = item_at p at i }) 0 n
   listed =
-      is-tab nowhere (flatten (view_of p)) _ n (sym (count-is p n at outer inner height e w)) (λ i h. entry p n at outer inner height e w i h nowhere)
+      is-tab nowhere (flatten (view_of p)) _ n (sym (count-is p n at places e w)) (λ i h. entry p n at places e w i h nowhere)
 
   pub instructions-are : instructions_of (flatten (view_of p)) ≡ tab (item_at p at) 0 n
   instructions-are = rw listed (map-tab (λ (v : Invocation). v.instruction) _ 0 n)
 
-  pub positions-are : positions_of (flatten (view_of p)) ≡ positions outer inner height n
+  pub positions-are : positions_of (flatten (view_of p)) ≡ positions places n
   unfolding positions
   positions-are = rw listed (map-tab (λ (v : Invocation). v.position) _ 0 n)
 
@@ -88,12 +92,12 @@ module _ (p : List ℕ) (n : ℕ) (at outer inner height : List ℕ) (e : refusa
       (keys-all, take_all 1024 (take n at) (omega (arith, few, at_length, length-take-le n at (omega (arith, few, at_length)))), offsets, map-tab (instruction_at p) (λ i. get_or at i 0) 0 n, instructions-are)
 
   -- the tables of the pack, by the arrays
-  pub tables-are : (names : List ℕ) {x : MintAnswer} → mints_in p ≡ some x → tables_in names p ≡ some (tables_with names (section_of p 0) (pools_in (section_of p 4)) (positions outer inner height n) (tab (item_at p at) 0 n) x)
+  pub tables-are : (names : List ℕ) {x : MintAnswer} → mints_in p ≡ some x → tables_in names p ≡ some (tables_with names (section_of p 0) (pools_in (section_of p 4)) (positions places n) (tab (item_at p at) 0 n) x)
   unfolding tables tables_if
   tables-are names q = rw (q, instructions-are, positions-are, ← (pools-are p))
 
   -- the programs that `infer` keeps, when it is lent section 0 and the first n offsets
-  pub infer-programs : (k0 : List ℕ) → k0 ≡ section_of p 0 → (t : List ℕ) {o : List ℕ} → length t ≡ 1024
+  pub infer-programs : (k0 : List ℕ) → k0 ≡ section_of p 0 → (t : List Id) {o : List Id} → length t ≡ 1024
       → o ≡ sets t 0 (programs_of (take 8448 k0) p (take 1024 (take (n - 0) (drop 0 at))))
       → Programs (section_of p 0) (item_at p at) n o
   infer-programs k0 h0 t {o} w h i l =
@@ -101,11 +105,11 @@ module _ (p : List ℕ) (n : ℕ) (at outer inner height : List ℕ) (e : refusa
       let same : o ≡ sets t 0 (programs_of (section_of p 0) p (take n at)) =
       h ∙ rw (h0, keys-all, sub-zero n, take_all 1024 (take n at) (omega (arith, few, c))) in
       let m : length (programs_of (section_of p 0) p (take n at)) ≡ n = programs-length (section_of p 0) p (take n at) ∙ c in
-      let kept : get_or o i 0 ≡ get_or (programs_of (section_of p 0) p (take n at)) i 0 =
-      ap (λ (x : List ℕ). get_or x i 0) same
-      ∙ ap (λ (k : ℕ). get_or (sets t 0 (programs_of (section_of p 0) p (take n at))) k 0) (sym (zero-add i))
+      let kept : get_or o i Unresolved ≡ get_or (programs_of (section_of p 0) p (take n at)) i Unresolved =
+      ap (λ (x : List Id). get_or x i Unresolved) same
+      ∙ ap (λ (k : ℕ). get_or (sets t 0 (programs_of (section_of p 0) p (take n at))) k Unresolved) (sym (zero-add i))
       ∙ sets-in t 0 (programs_of (section_of p 0) p (take n at)) i (omega (arith, m)) (omega (arith, m, few)) in
-      ap of_number kept
+      kept
       ∙ kept-program (section_of p 0) p (take n at) i (omega (arith, c))
       ∙ ap (λ (x : ℕ). program_of (section_of p 0) (instruction_at p x)) (get_or-take n at i 0 l)
 
@@ -114,7 +118,7 @@ module _ (p : List ℕ) (n : ℕ) (at outer inner height : List ℕ) (e : refusa
     same-is : inferred_in (take 8448 k0) k1 p (take 1024 (take (n - 0) (drop 0 at))) ≡ some x
     same-is = rw (h0, h1, sub-zero n) (inferred-is ∙ q)
 
-    pub infer-answer : {r : Inferred} → r ≡ answer_of (inferred_in (take 8448 k0) k1 p (take 1024 (take (n - 0) (drop 0 at)))) → r ≡ answer_of (some x)
+    pub infer-answer : {r : Result Made TooManyPasses} → r ≡ answer_of (inferred_in (take 8448 k0) k1 p (take 1024 (take (n - 0) (drop 0 at)))) → r ≡ answer_of (some x)
     infer-answer h = h ∙ ap answer_of same-is
 
     pub infer-rows : (t : List ℕ) {o : List ℕ} → o ≡ sets t 0 (mint_bytes (inferred_in (take 8448 k0) k1 p (take 1024 (take (n - 0) (drop 0 at))))) → o ≡ sets t 0 (table_bytes x.rows)
@@ -133,7 +137,7 @@ module _ (p : List ℕ) (n : ℕ) (at outer inner height : List ℕ) (e : refusa
     known-length h = ap length h ∙ length-sets (zeros 8192) 0 (final_of (inferred_in (take 8448 k0) k1 p (take 1024 (take (n - 0) (drop 0 at)))) (key_of (take 8448 k0)) (key_count (take 8448 k0))) ∙ length-replicate {A = ℕ} 8192 0
 
 -- what is known once `flatten` and `infer` have run on such a pack
-pub record Begun (p : List ℕ) (n : ℕ) (at outer inner height t o known programs : List ℕ) (r : Inferred) : Type 0 where
+pub record Begun (p : List ℕ) (n : ℕ) (at : List ℕ) (places : List Place) (t o known : List ℕ) (programs : List Id) (r : Result Made TooManyPasses) : Type 0 where
   -- its mint table, with few rows and passes
   pub table : MintAnswer
   pub mints : mints_in p ≡ some table
@@ -148,28 +152,28 @@ pub record Begun (p : List ℕ) (n : ℕ) (at outer inner height t o known progr
   pub holds : Holds known (section_of p 0) table.rows
   pub kept : Programs (section_of p 0) (item_at p at) n programs
   -- and what those are to be
-  pub tables : (names : List ℕ) → tables_in names p ≡ some (tables_with names (section_of p 0) (pools_in (section_of p 4)) (positions outer inner height n) (tab (item_at p at) 0 n) table)
+  pub tables : (names : List ℕ) → tables_in names p ≡ some (tables_with names (section_of p 0) (pools_in (section_of p 4)) (positions places n) (tab (item_at p at) 0 n) table)
 
-pub begun : (p : List ℕ) (n : ℕ) (at outer inner height : List ℕ) → refusal_number (verdict p) ≡ 0 → Flattened p n at outer inner height
+pub begun : (p : List ℕ) (n : ℕ) (at : List ℕ) (places : List Place) → refusal_number (verdict p) ≡ 0 → Flattened p n at places
     → (k0 k1 : List ℕ) → k0 ≡ section_of p 0 → k1 ≡ section_of p 1
-    → (t : List ℕ) {o known programs : List ℕ} {r : Inferred}
+    → (t : List ℕ) {o known : List ℕ} {programs : List Id} {r : Result Made TooManyPasses}
     → r ≡ answer_of (inferred_in (take 8448 k0) k1 p (take 1024 (take (n - 0) (drop 0 at))))
     → o ≡ sets t 0 (mint_bytes (inferred_in (take 8448 k0) k1 p (take 1024 (take (n - 0) (drop 0 at)))))
     → known ≡ sets (zeros 8192) 0 (final_of (inferred_in (take 8448 k0) k1 p (take 1024 (take (n - 0) (drop 0 at)))) (key_of (take 8448 k0)) (key_count (take 8448 k0)))
-    → programs ≡ sets (zeros 1024) 0 (programs_of (take 8448 k0) p (take 1024 (take (n - 0) (drop 0 at))))
-    → Begun p n at outer inner height t o known programs r
-begun p n at outer inner height e w k0 k1 h0 h1 t {known = known} a b c d =
+    → programs ≡ sets (replicate 1024 Unresolved) 0 (programs_of (take 8448 k0) p (take 1024 (take (n - 0) (drop 0 at))))
+    → Begun p n at places t o known programs r
+begun p n at places e w k0 k1 h0 h1 t {known = known} a b c d =
     let x = answered p e in
     record {
       table = x.0;
       mints = x.1;
       few_rows = omega (arith, x.2, rows-room (made p x.1));
       few_passes = x.3;
-      answer = infer-answer p n at outer inner height e w k0 k1 h0 h1 x.1 a;
-      rows = infer-rows p n at outer inner height e w k0 k1 h0 h1 x.1 t b;
-      few = few p n at outer inner height e w;
-      long = known-length p n at outer inner height e w k0 k1 h0 h1 x.1 c;
-      holds = holds (sound p x.1) (section_of p 0) known (few_keys p e) (infer-known p n at outer inner height e w k0 k1 h0 h1 x.1 (zeros 8192) c);
-      kept = infer-programs p n at outer inner height e w k0 h0 (zeros 1024) (length-replicate {A = ℕ} 1024 0) d;
-      tables = λ names. tables-are p n at outer inner height e w names x.1;
+      answer = infer-answer p n at places e w k0 k1 h0 h1 x.1 a;
+      rows = infer-rows p n at places e w k0 k1 h0 h1 x.1 t b;
+      few = few p n at places e w;
+      long = known-length p n at places e w k0 k1 h0 h1 x.1 c;
+      holds = holds (sound p x.1) (section_of p 0) known (few_keys p e) (infer-known p n at places e w k0 k1 h0 h1 x.1 (zeros 8192) c);
+      kept = infer-programs p n at places e w k0 h0 (replicate 1024 Unresolved) (length-replicate {A = Id} 1024 Unresolved) d;
+      tables = λ names. tables-are p n at places e w names x.1;
     }

@@ -9,7 +9,9 @@ use lib.ListN.{length, get_or}
 use lib.Seq.{sets}
 use Rattle.wire.specs.Zeros.{zeros}
 use Rattle.wire.proofs.Zeros.{zeros-at}
+use Rattle.ids.specs.declared.Id.{Id}
 use Rattle.pack.specs.Invocation.{Position}
+use Rattle.pack.specs.declared.position.Place.{Place}
 use Rattle.pack.specs.Sections.{section_of}
 use Rattle.evidence.specs.MintTable.{MintRow}
 use Rattle.wire.specs.Tab.{tab}
@@ -65,7 +67,7 @@ pub record Kept (o0 o1 o2 o3 o4 t0 t1 t2 t3 t4 : List ℕ) : Type 0 where
   pub natives : length o4 ≡ length t4
 
 -- what the steps of `fill` promise once the mints are inferred: transfers, legs, actions, the rows of table 1, the answer
-pub record Steps (names p ms at programs outer inner height : List ℕ) (n room m passes : ℕ) (r : Answer) (t0 t1 t2 t3 t4 o0 o1 o2 o3 o4 reasons leg : List ℕ) (c2 c3 c4 tests : ℕ) : Type 0 where
+pub record Steps (names p ms at : List ℕ) (programs : List Id) (places : List Place) (n room m passes : ℕ) (r : Answer) (t0 t1 t2 t3 t4 o0 o1 o2 o3 o4 reasons leg : List ℕ) (c2 c3 c4 tests : ℕ) : Type 0 where
   pub few : n ≤ 1024
   pub known : Programs (section_of p 0) (item_at p at) n programs
   pub transfers : Fills ms p at (transfer_rows (section_of p 0)) transfer_width n c2 t2 o2
@@ -73,7 +75,7 @@ pub record Steps (names p ms at programs outer inner height : List ℕ) (n room 
   pub legs : Fills ms p at (leg_rows_in names p) leg_width n c3 t3 o3
   pub numbers : Numbers ms p at (leg_rows_in names p) n (zeros 1024) leg
   pub actions : Fills ms p at (action_rows (section_of p 0)) action_width n c4 t4 o4
-  pub rows : FillsEach (positions outer inner height n) programs reasons leg tests t1 o1
+  pub rows : FillsEach (positions places n) programs reasons leg tests t1 o1
   pub answer :
       r ≡ fits (lent o0 o1 o2 o3 o4) room (record {
         number = 0;
@@ -89,7 +91,7 @@ pub record Steps (names p ms at programs outer inner height : List ℕ) (n room 
   pub kept : Kept o0 o1 o2 o3 o4 t0 t1 t2 t3 t4
 
 -- n invocations by their arrays, with the rows of table 0 behind an array of final mints: the answer for m rows of table 0 and that many passes, and tables 1 to 4
-pub record Finished (names p at outer inner height : List ℕ) (n room m passes : ℕ) (l : Lent) (table : List MintRow) (r : Answer) (t1 t2 t3 t4 o1 o2 o3 o4 : List ℕ) : Type 0 where
+pub record Finished (names p at : List ℕ) (places : List Place) (n room m passes : ℕ) (l : Lent) (table : List MintRow) (r : Answer) (t1 t2 t3 t4 o1 o2 o3 o4 : List ℕ) : Type 0 where
   pub answer :
       r ≡ fits l room (record {
         number = 0;
@@ -100,24 +102,24 @@ pub record Finished (names p at outer inner height : List ℕ) (n room m passes 
         legs = length (rows_of (leg_rows_in names p table) 0 (tab (item_at p at) 0 n));
         natives = length (rows_of (action_rows (section_of p 0) table) 0 (tab (item_at p at) 0 n));
         passes = passes;
-        tests = tests_of (positions outer inner height n);
+        tests = tests_of (positions places n);
       })
   pub invocations :
-      o1 ≡ placed invocation_width 0 (tab (invocation_at names (section_of p 0) (pools_in (section_of p 4)) table (positions outer inner height n) (tab (item_at p at) 0 n)) 0 (length (tab (item_at p at) 0 n))) t1
+      o1 ≡ placed invocation_width 0 (tab (invocation_at names (section_of p 0) (pools_in (section_of p 4)) table (positions places n) (tab (item_at p at) 0 n)) 0 (length (tab (item_at p at) 0 n))) t1
   pub transfers : o2 ≡ placed transfer_width 0 (rows_of (transfer_rows (section_of p 0) table) 0 (tab (item_at p at) 0 n)) t2
   pub legs : o3 ≡ placed leg_width 0 (rows_of (leg_rows_in names p table) 0 (tab (item_at p at) 0 n)) t3
   pub natives : o4 ≡ placed action_width 0 (rows_of (action_rows (section_of p 0) table) 0 (tab (item_at p at) 0 n)) t4
 
-pub finished : {names p ms at programs outer inner height : List ℕ} {n room m passes : ℕ} {r : Answer} {t0 t1 t2 t3 t4 o0 o1 o2 o3 o4 reasons leg : List ℕ} {c2 c3 c4 tests : ℕ}
-    → Steps names p ms at programs outer inner height n room m passes r t0 t1 t2 t3 t4 o0 o1 o2 o3 o4 reasons leg c2 c3 c4 tests
+pub finished : {names p ms at : List ℕ} {programs : List Id} {places : List Place} {n room m passes : ℕ} {r : Answer} {t0 t1 t2 t3 t4 o0 o1 o2 o3 o4 reasons leg : List ℕ} {c2 c3 c4 tests : ℕ}
+    → Steps names p ms at programs places n room m passes r t0 t1 t2 t3 t4 o0 o1 o2 o3 o4 reasons leg c2 c3 c4 tests
     → (table : List MintRow) → Holds ms (section_of p 0) table
-    → Finished names p at outer inner height n room m passes (lent t0 t1 t2 t3 t4) table r t1 t2 t3 t4 o1 o2 o3 o4
-finished {names} {p} {at = at} {programs} {outer} {inner} {height} {n = n} {reasons = reasons} {leg} s table h =
+    → Finished names p at places n room m passes (lent t0 t1 t2 t3 t4) table r t1 t2 t3 t4 o1 o2 o3 o4
+finished {names} {p} {at = at} {programs} {places} {n = n} {reasons = reasons} {leg} s table h =
     record {
       answer =
           s.answer
           ∙ rw (s.kept.mints, s.kept.invocations, s.kept.transfers, s.kept.legs, s.kept.natives, s.transfers.counted table h, s.legs.counted table h, s.actions.counted table h, s.rows.tests);
-      invocations = s.rows.rows ∙ rw (rows_are names (section_of p 0) p (pools_in (section_of p 4)) table n at programs outer inner height reasons leg gathered);
+      invocations = s.rows.rows ∙ rw (rows_are names (section_of p 0) p (pools_in (section_of p 4)) table n at programs places reasons leg gathered);
       transfers = s.transfers.rows table h;
       legs = s.legs.rows table h;
       natives = s.actions.rows table h;

@@ -72,25 +72,25 @@ sound p q =
     }
 
 -- the same by equal numbers
-pub recast : {names p at outer inner height : List ℕ} {n room room' m m' k k' : ℕ} {l : Lent} {table : List MintRow} {r : Answer} {t1 t2 t3 t4 o1 o2 o3 o4 : List ℕ}
+pub recast : {names p at : List ℕ} {places : List Place} {n room room' m m' k k' : ℕ} {l : Lent} {table : List MintRow} {r : Answer} {t1 t2 t3 t4 o1 o2 o3 o4 : List ℕ}
     → room ≡ room'
     → m ≡ m'
     → k ≡ k'
-    → Finished names p at outer inner height n room m k l table r t1 t2 t3 t4 o1 o2 o3 o4
-    → Finished names p at outer inner height n room' m' k' l table r t1 t2 t3 t4 o1 o2 o3 o4
+    → Finished names p at places n room m k l table r t1 t2 t3 t4 o1 o2 o3 o4
+    → Finished names p at places n room' m' k' l table r t1 t2 t3 t4 o1 o2 o3 o4
 recast e f g s = rw (← e, ← f, ← g) s
 
 -- the steps of `fill`, for a pack whose mint table is x
-pub record Filling (names p t0 t1 t2 t3 t4 at outer inner height : List ℕ) (n : ℕ) (x : MintAnswer) (r : Answer) (o0 o1 o2 o3 o4 : List ℕ) : Type 0 where
-  pub tables : tables_in names p ≡ some (tables_with names (section_of p 0) (pools_in (section_of p 4)) (positions outer inner height n) (tab (item_at p at) 0 n) x)
+pub record Filling (names p t0 t1 t2 t3 t4 at : List ℕ) (places : List Place) (n : ℕ) (x : MintAnswer) (r : Answer) (o0 o1 o2 o3 o4 : List ℕ) : Type 0 where
+  pub tables : tables_in names p ≡ some (tables_with names (section_of p 0) (pools_in (section_of p 4)) (positions places n) (tab (item_at p at) 0 n) x)
   pub mints : mints_in p ≡ some x
   pub rows : o0 ≡ sets t0 0 (table_bytes x.rows)
-  pub finished : Finished names p at outer inner height n x.room (length x.rows) x.passes (lent t0 t1 t2 t3 t4) x.rows r t1 t2 t3 t4 o1 o2 o3 o4
+  pub finished : Finished names p at places n x.room (length x.rows) x.passes (lent t0 t1 t2 t3 t4) x.rows r t1 t2 t3 t4 o1 o2 o3 o4
   pub cleared : Cleared t0 t1 t2 t3 t4
 
-module _ {names p t0 t1 t2 t3 t4 at outer inner height : List ℕ} {n : ℕ} {x : MintAnswer} {r : Answer} {o0 o1 o2 o3 o4 : List ℕ} (s : Filling names p t0 t1 t2 t3 t4 at outer inner height n x r o0 o1 o2 o3 o4) where
+module _ {names p t0 t1 t2 t3 t4 at : List ℕ} {places : List Place} {n : ℕ} {x : MintAnswer} {r : Answer} {o0 o1 o2 o3 o4 : List ℕ} (s : Filling names p t0 t1 t2 t3 t4 at places n x r o0 o1 o2 o3 o4) where
   abbrev all : Tables
-  all = tables_with names (section_of p 0) (pools_in (section_of p 4)) (positions outer inner height n) (tab (item_at p at) 0 n) x
+  all = tables_with names (section_of p 0) (pools_in (section_of p 4)) (positions places n) (tab (item_at p at) 0 n) x
 
   abbrev room : Lent
   room = lent t0 t1 t2 t3 t4
@@ -99,7 +99,7 @@ module _ {names p t0 t1 t2 t3 t4 at outer inner height : List ℕ} {n : ℕ} {x 
   unfolding accepted tables_with
   answer-is =
       s.finished.answer
-      ∙ sym (fit-answer all room ∙ rw (length-map x.rows mint_row, tab-length (item_at p at) 0 n, tab-length (invocation_at names (section_of p 0) (pools_in (section_of p 4)) x.rows (positions outer inner height n) (tab (item_at p at) 0 n)) 0 n))
+      ∙ sym (fit-answer all room ∙ rw (length-map x.rows mint_row, tab-length (item_at p at) 0 n, tab-length (invocation_at names (section_of p 0) (pools_in (section_of p 4)) x.rows (positions places n) (tab (item_at p at) 0 n)) 0 n))
 
   good : r.number ≡ 0 → fitted all room ≡ accepted all room
   good h = fit-accepted all room (rw (← answer-is) h)

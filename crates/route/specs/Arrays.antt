@@ -1,7 +1,8 @@
 -- What the arrays of an invocation's numbers stand for: its row of table 1 by what they hold at its place.
 -- Assumes nothing.
 use Rattle.std.specs.Prelude.{ℕ, ◌+◌, cond, List, ◌≡◌, ltb, eqb, length, get_or}
-use Rattle.ids.specs.Which.{of_number}
+use Rattle.ids.specs.declared.Id.{Id}
+use Rattle.ids.specs.declared.Id.TheVariants.{Unresolved}
 use Rattle.pack.specs.Invocation.{Instruction, Position, instruction_at}
 use Rattle.wire.specs.Tab.{tab}
 use Rattle.subtrees.specs.Subtrees.{position_in, bits, end_of, insides_of, parent_of, tests_of}
@@ -30,17 +31,17 @@ unfoldable pub own_bits : ℕ → ℕ → ℕ
 own_bits reason leg = cond (ltb 0 leg) 16 0 + cond (eqb reason 0) 32 0
 
 -- all its bits
-unfoldable pub bits_at : List ℕ → List ℕ → List ℕ → List ℕ → ℕ → ℕ
-bits_at programs inside reasons leg i = get_or inside i 0 + program_bits (of_number (get_or programs i 0)) + own_bits (get_or reasons i 0) (get_or leg i 0)
+unfoldable pub bits_at : List Id → List ℕ → List ℕ → List ℕ → ℕ → ℕ
+bits_at programs inside reasons leg i = get_or inside i 0 + program_bits (get_or programs i Unresolved) + own_bits (get_or reasons i 0) (get_or leg i 0)
 
 -- its row, where ps are the positions of the invocations
-unfoldable pub row_at : List Position → List ℕ → List ℕ → List ℕ → ℕ → List ℕ
+unfoldable pub row_at : List Position → List Id → List ℕ → List ℕ → ℕ → List ℕ
 row_at ps programs reasons leg i =
     invocation_row (position_in ps i) (end_of ps i) (bits_at programs (insides_of ps (owns_of reasons leg (length ps))) reasons leg i) (get_or leg i 0) (parent_of ps i)
     (get_or reasons i 0)
 
 -- what is promised of table 1
-pub record FillsEach (ps : List Position) (programs reasons leg : List ℕ) (r : ℕ) (before after : List ℕ) : Type 0 where
+pub record FillsEach (ps : List Position) (programs : List Id) (reasons leg : List ℕ) (r : ℕ) (before after : List ℕ) : Type 0 where
   -- the answer is how often `descendant` is called
   pub tests : r ≡ tests_of ps
   -- each invocation has its row

@@ -3,8 +3,7 @@
 use Rattle.std.specs.Prelude.{ℕ, ◌/◌, ◌≤◌, cond, List, eqb, length}
 use Rattle.pack.specs.View.{view_of}
 use Rattle.pack.specs.Flatten.{flatten}
-use Rattle.pack.specs.Verdict.{verdict, refusal_number, place_of}
-use Rattle.pack.specs.declared.Verdict.{Verdict}
+use Rattle.pack.specs.Verdict.{Verdict, verdict, refusal_number, place_of}
 use Rattle.route.specs.declared.RowsNeeded.{RowsNeeded}
 use Rattle.route.specs.Widths.{mint_width, invocation_width, transfer_width, leg_width, action_width}
 use Rattle.route.specs.Route.{Lent}

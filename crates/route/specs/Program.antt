@@ -3,16 +3,16 @@
 use Rattle.std.specs.Prelude.{ℕ, ◌+◌, ◌<◌, ◌≡◌, Bool, true, false, cond, List, get_or}
 use Rattle.ids.specs.declared.Id.{Id}
 use Rattle.ids.specs.declared.Id.TheVariants.{SplToken, Token2022, WrappedSol, ComputeBudget, AssociatedToken, Memo, PumpFun, LaunchLab, PumpSwap, Clmm, Cpmm, AmmV4, Orca, Dlmm, System, Other, Unresolved}
-use Rattle.ids.specs.Which.{of_number, program_at}
+use Rattle.ids.specs.Which.{program_at}
 use Rattle.pack.specs.Invocation.{Instruction}
 
 -- the program of an instruction; ks is the key section
 abbrev pub program_of : List ℕ → Instruction → Id
 program_of ks x = program_at ks x.program
 
--- an array holds the number of each program of the first n instructions x
-abbrev pub Programs : List ℕ → (ℕ → Instruction) → ℕ → List ℕ → Type 0
-Programs ks x n programs = (i : ℕ) → i < n → of_number (get_or programs i 0) ≡ program_of ks (x i)
+-- an array holds each program of the first n instructions x
+abbrev pub Programs : List ℕ → (ℕ → Instruction) → ℕ → List Id → Type 0
+Programs ks x n programs = (i : ℕ) → i < n → get_or programs i Unresolved ≡ program_of ks (x i)
 
 -- the Rust's `skip_route`: the token programs, System, Compute Budget, Associated Token and Memo
 abbrev pub skips : Id → Bool

@@ -6,20 +6,16 @@ use Rattle.wire.specs.Zeros.{zeros}
 use Rattle.pack.specs.Sections.{section_of}
 use Rattle.pack.specs.View.{view_of}
 use Rattle.pack.specs.Flatten.{flatten}
-use Rattle.pack.specs.Verdict.{verdict, refusal_number, place_of}
-use Rattle.pack.specs.declared.Verdict.{Verdict}
+use Rattle.pack.specs.Verdict.{Verdict, verdict, refusal_number, place_of}
 use Rattle.route.specs.Widths.{mint_width, invocation_width, transfer_width, leg_width, action_width}
 use Rattle.route.specs.declared.Answer.{Answer}
+use Rattle.route.specs.declared.fit.Lent.{Lent as Lengths}
 use Rattle.route.specs.Lay.{written}
 use Rattle.route.specs.Tables.{Tables, tables}
 
 -- the lengths of the five lent tables, in bytes
-pub record Lent : Type 0 where
-  pub mints : ℕ
-  pub invocations : ℕ
-  pub transfers : ℕ
-  pub legs : ℕ
-  pub natives : ℕ
+abbrev pub Lent : Type 0
+Lent = Lengths
 
 -- the lengths of five lists
 abbrev pub lent : List ℕ → List ℕ → List ℕ → List ℕ → List ℕ → Lent

@@ -12,6 +12,7 @@ use crate::candidate::Candidate;
 use crate::invocations::wide;
 use crate::transfers::mint;
 use crate::width;
+use ids::Id;
 use natives::Native;
 
 // How many actions there are: one, or none.
@@ -53,7 +54,7 @@ pub(crate) fn put_rows(
     pack: &[u8],
     n: usize,
     at: &[u32; 1024],
-    programs: &[u8; 1024],
+    programs: &[Id; 1024],
     mints: &[u8; 8192],
     out: &mut [u8],
 ) -> usize
@@ -65,8 +66,8 @@ pub(crate) fn put_rows(
     let mut k = 0;
     for i in 0..n {
         let x = Candidate {
-            program: ids::of_number(programs[i]),
-            at: wide(at[i]),
+            program: programs[i],
+            at: at[i] as usize,
             number: i as u32,
             row: k,
         };

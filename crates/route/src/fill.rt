@@ -1,9 +1,11 @@
-// Fills the tables of a pack and answers, or answers the refusal that it meets.
+// Fills the tables of a pack and answers, or tells the refusal that it meets.
 ghost use Rattle.route.specs.Filled.{Cleared, Filled};
 
-use crate::fit::{fit, refusal};
+use crate::fit::{Lent, fit};
+use crate::refusal::Refusal;
 use crate::{Answer, actions, invocations, legs, transfers};
-use mints::Inferred;
+use ids::Id;
+use pack::position::BLANK;
 
 // Names and a pack into tables that are zero, or the refusal that they meet.
 //
@@ -16,28 +18,21 @@ pub(crate) fn fill(
     t2: &mut [u8],
     t3: &mut [u8],
     t4: &mut [u8],
-) -> Answer
+) -> Result<Answer, Refusal>
     requires { Cleared t0.old t1.old t2.old t3.old t4.old }
     ensures { Filled names.now pack.now
         t0.old t1.old t2.old t3.old t4.old
         result t0.new t1.new t2.new t3.new t4.new }
 {
     if names.len() != 88 {
-        return refusal(1, 0);
+        return Err(Refusal::Names);
     }
     let mut at = [0u32; 1024];
-    let mut outer = [0u32; 1024];
-    let mut inner = [0u32; 1024];
-    let mut height = [0u64; 1024];
-    let flat = pack::flatten(pack, &mut at, &mut outer, &mut inner, &mut height);
-    let verdict = flat.verdict;
-    if pack::number(verdict) != 0 {
-        return refusal(pack::number(verdict), pack::place(verdict));
-    }
-    let n = flat.count;
+    let mut places = [BLANK; 1024];
+    let n = pack::flatten(pack, &mut at, &mut places)?;
     let mut known = [0u8; 8192];
-    let mut programs = [0u8; 1024];
-    let inferred = mints::infer(
+    let mut programs = [Id::Unresolved; 1024];
+    let made = mints::infer(
         pack::section(pack, 0),
         pack::section(pack, 1),
         pack,
@@ -45,33 +40,30 @@ pub(crate) fn fill(
         t0,
         &mut known,
         &mut programs,
-    );
-    let Inferred::Made(room, rows, passes) = inferred else {
-        return refusal(7, 0);
-    };
+    )?;
     let mut reasons = [0u8; 1024];
     let transfers = transfers::put_rows(pack, n, &at, &programs, &known, t2, &mut reasons);
     let mut leg = [0u32; 1024];
     let legs = legs::put_rows(names, pack, n, &at, &programs, &known, t3, &mut leg);
     let natives = actions::put_rows(pack, n, &at, &programs, &known, t4);
-    let tests = invocations::put_rows(n, &outer, &inner, &height, &programs, &reasons, &leg, t1);
-    fit(
-        t0.len(),
-        t1.len(),
-        t2.len(),
-        t3.len(),
-        t4.len(),
-        room,
-        Answer {
-            number: 0,
-            place: 0,
-            mints: rows as u32,
-            invocations: n as u32,
-            transfers: transfers as u32,
-            legs: legs as u32,
-            natives: natives as u32,
-            passes: passes as u32,
-            tests,
-        },
-    )
+    let tests = invocations::put_rows(n, &places, &programs, &reasons, &leg, t1);
+    let lent = Lent {
+        mints: t0.len(),
+        invocations: t1.len(),
+        transfers: t2.len(),
+        legs: t3.len(),
+        natives: t4.len(),
+    };
+    let answer = Answer {
+        number: 0,
+        place: 0,
+        mints: made.rows as u32,
+        invocations: n as u32,
+        transfers: transfers as u32,
+        legs: legs as u32,
+        natives: natives as u32,
+        passes: made.passes as u32,
+        tests,
+    };
+    fit(lent, made.room, answer)
 }

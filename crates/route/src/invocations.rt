@@ -1,13 +1,14 @@
 // Table 1: one row for each invocation.
 ghost use Rattle.std.specs.Prelude.{◌≡◌, ◌<◌, ◌≤◌, get_or};
 ghost use Rattle.std.proofs.lemmas.List.Edits.{sets};
-ghost use Rattle.pack.specs.Invocation.{lowered};
-ghost use Rattle.subtrees.specs.Subtrees.{position_of, positions};
+ghost use Rattle.pack.specs.Invocation.{lowered, position_of};
+ghost use Rattle.subtrees.specs.Subtrees.{positions};
 ghost use Rattle.route.specs.Arrays.{own_for, owns_of, own_bits, bits_at, FillsEach};
 ghost use Rattle.route.specs.Program.{program_bits};
 ghost use Rattle.route.specs.Row.{flagged as flagged_of, invocation_row};
 
 use ids::Id;
+use pack::Place;
 
 // The bytes of a row.
 pub(crate) const WIDTH: usize = 28;
@@ -51,21 +52,19 @@ fn put_flagged(out: &mut [u8], at: usize, raised: u64)
 fn put_row(
     out: &mut [u8],
     at: usize,
-    outer: u32,
-    inner: u32,
-    height: u64,
+    place: Place,
     end: u32,
     bits: u8,
     leg: u32,
     parent: u32,
     reason: u8,
 )
-    ensures { out.new ≡ sets out.old at (invocation_row (position_of outer inner height) end bits leg parent reason) }
+    ensures { out.new ≡ sets out.old at (invocation_row (position_of place) end bits leg parent reason) }
 {
     let mut row = [0u8; WIDTH];
-    wire::put_u32(&mut row, 0, outer);
-    put_flagged(&mut row, 4, inner as u64);
-    put_flagged(&mut row, 9, height);
+    wire::put_u32(&mut row, 0, place.outer);
+    put_flagged(&mut row, 4, u64::from(place.inner));
+    put_flagged(&mut row, 9, place.height);
     wire::put_u32(&mut row, 14, end);
     wire::put_byte(&mut row, 18, bits);
     wire::put_u32(&mut row, 19, leg);
@@ -109,7 +108,7 @@ pub(crate) fn wide(x: u32) -> usize
 
 // All bits of invocation i.
 fn bits(
-    programs: &[u8; 1024],
+    programs: &[Id; 1024],
     inside: &[u8; 1024],
     reasons: &[u8; 1024],
     leg: &[u32; 1024],
@@ -118,22 +117,20 @@ fn bits(
     requires { (i < 1024) × (get_or inside.now i 0 ≤ 3) }
     ensures { result ≡ bits_at programs.now inside.now reasons.now leg.now i }
 {
-    inside[i] + program_bits(ids::of_number(programs[i])) + own_bits(reasons[i], leg[i])
+    inside[i] + program_bits(programs[i]) + own_bits(reasons[i], leg[i])
 }
 
 // The rows of the n invocations, by why each has no transfer, if it has none, and which leg. Answers the calls of `descendant`.
 pub(crate) fn put_rows(
     n: usize,
-    outer: &[u32; 1024],
-    inner: &[u32; 1024],
-    height: &[u64; 1024],
-    programs: &[u8; 1024],
+    places: &[Place; 1024],
+    programs: &[Id; 1024],
     reasons: &[u8; 1024],
     leg: &[u32; 1024],
     out: &mut [u8],
 ) -> u32
     requires { n ≤ 1024 }
-    ensures { FillsEach (positions outer.now inner.now height.now n)
+    ensures { FillsEach (positions places.now n)
         programs.now reasons.now leg.now result out.old out.new }
 {
     let mut own = [0u8; 1024];
@@ -143,9 +140,7 @@ pub(crate) fn put_rows(
     let mut parents = [0u32; 1024];
     let tests = subtrees::subtrees(
         n,
-        outer,
-        inner,
-        height,
+        places,
         &own,
         &mut ends,
         &mut inside,
@@ -156,9 +151,7 @@ pub(crate) fn put_rows(
         put_row(
             out,
             i * WIDTH,
-            outer[i],
-            inner[i],
-            height[i],
+            places[i],
             ends[i],
             b,
             leg[i],

@@ -13,6 +13,7 @@ use crate::candidate::Candidate;
 use crate::invocations::wide;
 use crate::transfers::mint;
 use crate::width;
+use ids::Id;
 use swaps::Found;
 
 // Writes the row of a candidate, if it is a leg. Answers how many rows that is.
@@ -81,7 +82,7 @@ pub(crate) fn put_rows<'a>(
     pack: &'a [u8],
     n: usize,
     at: &[u32; 1024],
-    programs: &[u8; 1024],
+    programs: &[Id; 1024],
     mints: &'a [u8; 8192],
     out: &mut [u8],
     leg: &mut [u32; 1024],
@@ -97,8 +98,8 @@ pub(crate) fn put_rows<'a>(
     let mut k = 0;
     for i in 0..n {
         let x = Candidate {
-            program: ids::of_number(programs[i]),
-            at: wide(at[i]),
+            program: programs[i],
+            at: at[i] as usize,
             number: i as u32,
             row: k,
         };

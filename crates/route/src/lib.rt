@@ -11,10 +11,11 @@ mod fit;
 mod invocations;
 mod legs;
 mod needs;
+mod refusal;
 mod transfers;
 pub mod width;
 
-ghost use Rattle.route.specs.Filled.{Cleared, Settles};
+ghost use Rattle.route.specs.Filled.{Cleared};
 ghost use Rattle.route.specs.Route.{Leaves};
 
 use fill::fill;
@@ -59,18 +60,6 @@ fn clear(t0: &mut [u8], t1: &mut [u8], t2: &mut [u8], t3: &mut [u8], t4: &mut [u
     wire::clear(t4);
 }
 
-// Leaves the tables of a success, whose number is 0, as they are, and zeroes those of a refusal.
-fn settle(number: u32, t0: &mut [u8], t1: &mut [u8], t2: &mut [u8], t3: &mut [u8], t4: &mut [u8])
-    ensures { Settles number
-        t0.old t1.old t2.old t3.old t4.old
-        t0.new t1.new t2.new t3.new t4.new }
-{
-    if number == 0 {
-        return;
-    }
-    clear(t0, t1, t2, t3, t4);
-}
-
 // Names, a pack, and the five tables: mints, invocations, transfers, legs, natives.
 pub fn route(
     names: &[u8],
@@ -86,7 +75,11 @@ pub fn route(
         result t0.new t1.new t2.new t3.new t4.new }
 {
     clear(t0, t1, t2, t3, t4);
-    let answer = fill(names, pack, t0, t1, t2, t3, t4);
-    settle(answer.number, t0, t1, t2, t3, t4);
-    answer
+    match fill(names, pack, t0, t1, t2, t3, t4) {
+        Ok(answer) => answer,
+        Err(refusal) => {
+            clear(t0, t1, t2, t3, t4);
+            refusal.answer()
+        }
+    }
 }

@@ -12,6 +12,7 @@ ghost use Rattle.route.specs.Transfers.{transfer_rows, reason_in, reasons_of, tr
 use crate::candidate::Candidate;
 use crate::invocations::wide;
 use crate::width;
+use ids::Id;
 use token::Moved;
 
 // The final mint of a key index: 32 bytes, zero where it has none.
@@ -59,7 +60,7 @@ pub(crate) fn put_rows(
     pack: &[u8],
     n: usize,
     at: &[u32; 1024],
-    programs: &[u8; 1024],
+    programs: &[Id; 1024],
     mints: &[u8; 8192],
     out: &mut [u8],
     reasons: &mut [u8; 1024],
@@ -73,8 +74,8 @@ pub(crate) fn put_rows(
     let mut k = 0;
     for i in 0..n {
         let x = Candidate {
-            program: ids::of_number(programs[i]),
-            at: wide(at[i]),
+            program: programs[i],
+            at: at[i] as usize,
             number: i as u32,
             row: k,
         };

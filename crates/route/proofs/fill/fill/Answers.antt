@@ -23,7 +23,7 @@ slice_bounds-infer-end c =
     let p = c.args.pack.now in
     let f = c.flatten-flat in
     let e : refusal_number (verdict p) ≡ 0 = sym (c.number.ensures ∙ ap refusal_number f.ensures.0) ∙ c.if-number-ne0.false in
-    omega (arith, few p f.result.count f.new.at f.new.outer f.new.inner f.new.height e f.ensures.1, at_length p f.result.count f.new.at f.new.outer f.new.inner f.new.height e f.ensures.1)
+    omega (arith, few p f.result.count f.new.at f.new.places e f.ensures.1, at_length p f.result.count f.new.at f.new.places e f.ensures.1)
 
 -- once the mints are inferred: the call's pack, and that it is not refused
 abbrev pack : After-infer-inferred → List ℕ
@@ -39,7 +39,7 @@ began m =
     let k0 = m.section in
     let k1 = m.section-2 in
     let i = m.infer-inferred.ensures in
-    begun (pack m) f.result.count f.new.at f.new.outer f.new.inner f.new.height (good m) f.ensures.1 k0.result.now k1.result.now k0.ensures k1.ensures m.args.t0.now i.value i.rows_after i.known_after i.programs_after
+    begun (pack m) f.result.count f.new.at f.new.places (good m) f.ensures.1 k0.result.now k1.result.now k0.ensures k1.ensures m.args.t0.now i.value i.rows_after i.known_after i.programs_after
 
 pub returns-in_default : goal.returns-in_default
 returns-in_default c =

@@ -10,4 +10,4 @@ use mathlib.Core.Path.{◌≡◌}
 use Rattle.route.proofs.invocations.put_rows.Given as goal
 
 abbrev pub invariant-loop-i : goal.invariant-loop-i
-invariant-loop-i l = (length l.out ≡ length l.initial.out) × (l.out ≡ placed invocation_width 0 (tab (row_at (positions l.outer l.inner l.height l.n) l.programs l.reasons l.leg) 0 l.i) l.initial.out)
+invariant-loop-i l = (length l.out ≡ length l.initial.out) × (l.out ≡ placed invocation_width 0 (tab (row_at (positions l.places l.n) l.programs l.reasons l.leg) 0 l.i) l.initial.out)

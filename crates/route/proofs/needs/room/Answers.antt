@@ -21,7 +21,7 @@ overflow_cast-n c =
     let p = c.args.pack.now in
     let f = c.flatten-flat in
     let e : refusal_number (verdict p) ≡ 0 = sym (c.number.ensures ∙ ap refusal_number f.ensures.0) ∙ c.if-number-ne0.false in
-    omega (arith, (passed p e).few, count-is p f.result.count f.new.at f.new.outer f.new.inner f.new.height e f.ensures.1)
+    omega (arith, (passed p e).few, count-is p f.result.count f.new.at f.new.places e f.ensures.1)
 
 pub overflow_cast-result : goal.overflow_cast-result
 overflow_cast-result c =
@@ -35,4 +35,4 @@ returns c =
     let p = c.args.pack.now in
     let f = c.flatten-flat in
     let e : refusal_number (verdict p) ≡ 0 = sym (c.number.ensures ∙ ap refusal_number f.ensures.0) ∙ c.if-number-ne0.false in
-    needed-rows p e (ap (λ (s : List ℕ). length s / 33) c.section.ensures ∙ sym (keys_length p)) (count-is p f.result.count f.new.at f.new.outer f.new.inner f.new.height e f.ensures.1)
+    needed-rows p e (ap (λ (s : List ℕ). length s / 33) c.section.ensures ∙ sym (keys_length p)) (count-is p f.result.count f.new.at f.new.places e f.ensures.1)
