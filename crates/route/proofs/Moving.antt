@@ -12,8 +12,10 @@ use lib.Seq.{sets}
 use Rattle.ids.specs.Keys.{Key, key_of}
 use Rattle.pack.specs.Invocation.{Instruction}
 use Rattle.token.specs.Programs.{is_token}
-use Rattle.token.specs.declared.Moved.{Moved}
-use Rattle.token.specs.declared.Moved.TheVariants.{NotToken, UnsupportedTag, TooFewAccounts, DataTooShort, ZeroKey, FeeUnknown, FeeKnown}
+use Rattle.std.specs.Prelude.{Result, Ok, Err}
+use Rattle.token.specs.declared.moved.Transfer.{Transfer}
+use Rattle.token.specs.declared.moved.Reason.{Reason}
+use Rattle.token.specs.declared.moved.Reason.TheVariants.{NotToken, UnsupportedTag, TooFewAccounts, DataTooShort, ZeroKey}
 use Rattle.token.specs.Moved.{transfer_value, reason_of, why_none, source_by}
 use Rattle.token.specs.Reasons.{reason}
 use Rattle.token.specs.Rows.{transfer_row, transfer_bytes}
@@ -46,23 +48,17 @@ no-token ks x e = rw e
 
 -- κ gives the key of an index, μ the final mint of a key, mint the one that is handed on
 module _ (κ : ℕ → Key) (μ : Key → Option Key) (i : ℕ) (program : Key) (mint : Option Key) where
-  pub row-counted : (m : Moved) → transfer_count (reason_of m) ≡ length (row_if (λ t. transfer_row i program (μ t.source) t) (transfer_value κ m))
+  pub row-counted : (m : Result Transfer Reason) → transfer_count (reason_of m) ≡ length (row_if (λ t. transfer_row i program (μ t.source) t) (transfer_value κ m))
   unfolding transfer_count
-  row-counted NotToken = refl
-  row-counted UnsupportedTag = refl
-  row-counted TooFewAccounts = refl
-  row-counted DataTooShort = refl
-  row-counted ZeroKey = refl
-  row-counted (FeeUnknown s d a) = refl
-  row-counted (FeeKnown s d a f) = refl
+  row-counted (Ok t) = refl
+  row-counted (Err NotToken) = refl
+  row-counted (Err UnsupportedTag) = refl
+  row-counted (Err TooFewAccounts) = refl
+  row-counted (Err DataTooShort) = refl
+  row-counted (Err ZeroKey) = refl
 
-  pub row-placed : (m : Moved) → mint ≡ μ (κ (source_by m)) → (out : List ℕ) (k : ℕ)
+  pub row-placed : (m : Result Transfer Reason) → mint ≡ μ (κ (source_by m)) → (out : List ℕ) (k : ℕ)
       → sets out (k * transfer_width) (transfer_bytes i program mint (transfer_value κ m)) ≡ placed transfer_width k (row_if (λ t. transfer_row i program (μ t.source) t) (transfer_value κ m)) out
   unfolding placed
-  row-placed NotToken h out k = refl
-  row-placed UnsupportedTag h out k = refl
-  row-placed TooFewAccounts h out k = refl
-  row-placed DataTooShort h out k = refl
-  row-placed ZeroKey h out k = refl
-  row-placed (FeeUnknown s d a) h out k = rw h
-  row-placed (FeeKnown s d a f) h out k = rw h
+  row-placed (Ok t) h out k = rw h
+  row-placed (Err e) h out k = refl

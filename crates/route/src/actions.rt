@@ -9,14 +9,13 @@ ghost use Rattle.route.specs.Program.{program_of, Programs};
 ghost use Rattle.route.specs.Actions.{action_rows, action_count};
 
 use crate::candidate::Candidate;
-use crate::invocations::wide;
 use crate::transfers::mint;
 use crate::width;
 use ids::Id;
 use natives::Native;
 
 // How many actions there are: one, or none.
-fn count(native: Native) -> u8
+fn count(native: Native) -> usize
     ensures { result ≡ action_count native }
 {
     match native {
@@ -28,7 +27,7 @@ fn count(native: Native) -> u8
 }
 
 // Writes the row of a candidate, if it is an action. Answers how many rows that is.
-fn put_one(keys: &[u8], pack: &[u8], mints: &[u8; 8192], x: Candidate, out: &mut [u8]) -> u8
+fn put_one(keys: &[u8], pack: &[u8], mints: &[u8; 8192], x: Candidate, out: &mut [u8]) -> usize
     requires { (x.row < 1024) × (x.program ≡ program_of keys.now (instruction_at pack.now x.at)) }
     ensures { Puts mints.now keys.now pack.now (action_rows keys.now) action_width x result
         out.old out.new }
@@ -71,8 +70,7 @@ pub(crate) fn put_rows(
             number: i as u32,
             row: k,
         };
-        let r = put_one(keys, pack, mints, x, out);
-        k += wide(r as u32);
+        k += put_one(keys, pack, mints, x, out);
     }
     k
 }

@@ -99,13 +99,6 @@ fn put_own(n: usize, reasons: &[u8; 1024], leg: &[u32; 1024], own: &mut [u8; 102
     }
 }
 
-// An offset that an array holds: a number handed to a function is known to be below 2^32, an element is not.
-pub(crate) fn wide(x: u32) -> usize
-    ensures { result ≡ x }
-{
-    x as usize
-}
-
 // All bits of invocation i.
 fn bits(
     programs: &[Id; 1024],

@@ -10,7 +10,6 @@ ghost use Rattle.route.specs.Legs.{leg_rows, leg_rows_in};
 ghost use Rattle.route.specs.Program.{program_of, Programs};
 
 use crate::candidate::Candidate;
-use crate::invocations::wide;
 use crate::transfers::mint;
 use crate::width;
 use ids::Id;
@@ -25,7 +24,7 @@ fn put_one<'a>(
     mints: &'a [u8; 8192],
     x: Candidate,
     out: &mut [u8],
-) -> u8
+) -> usize
     requires { (x.row < 1024) × (x.program ≡ program_of keys.now (instruction_at pack.now x.at)) }
     ensures { Puts mints.now keys.now pack.now
         (leg_rows names.now keys.now (pools_in pools.now)) leg_width x result
@@ -48,7 +47,7 @@ fn put_one<'a>(
         Found::Leg(leg) => {
             let spent = mint(mints, leg.input);
             let bought = mint(mints, leg.output);
-            let program = wide(pack::program(pack, x.at));
+            let program = pack::program(pack, x.at) as usize;
             swaps::row::put_leg(
                 out,
                 x.row * width::LEGS,
@@ -66,7 +65,7 @@ fn put_one<'a>(
 }
 
 // The number of a leg in row k, where there are r of them: 1 plus its row, or 0.
-fn number(r: u8, k: usize) -> u32
+fn number(r: usize, k: usize) -> u32
     requires { (r ≤ 1) × (k < 1024) }
     ensures { result ≡ r * suc k }
 {
@@ -105,7 +104,7 @@ pub(crate) fn put_rows<'a>(
         };
         let r = put_one(names, keys, pack, pools, mints, x, out);
         leg[i] = number(r, k);
-        k += wide(r as u32);
+        k += r;
     }
     k
 }

@@ -10,10 +10,9 @@ ghost use Rattle.route.specs.Program.{program_of, Programs};
 ghost use Rattle.route.specs.Transfers.{transfer_rows, reason_in, reasons_of, transfer_count};
 
 use crate::candidate::Candidate;
-use crate::invocations::wide;
 use crate::width;
 use ids::Id;
-use token::Moved;
+use token::Reason;
 
 // The final mint of a key index: 32 bytes, zero where it has none.
 pub(crate) fn mint(mints: &[u8; 8192], index: u8) -> &[u8]
@@ -40,7 +39,7 @@ fn put_one(keys: &[u8], pack: &[u8], mints: &[u8; 8192], x: Candidate, out: &mut
     // No other program gives a transfer, so its accounts and data are not read.
     let id = x.program;
     if !token::token_program(id) {
-        return token::reason(Moved::NotToken);
+        return token::reason(Err(Reason::NotToken));
     }
     let moved = token::transfer(id, keys, pack::accounts(pack, x.at), pack::data(pack, x.at));
     token::row::put_row(

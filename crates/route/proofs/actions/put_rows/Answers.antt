@@ -16,25 +16,25 @@ loop-i-init c =
       fills-none a.mints.now a.pack.now a.at.now (action_rows (section_of a.pack.now 0)) action_width a.out.now,
     )
 
-pub put_one-r-requires : goal.put_one-r-requires
-put_one-r-requires c =
-    (omega arith, rw (c.section-keys.ensures, c.wide.ensures) (c.of_number.ensures ∙ c.requires.1 c.loop-i.i (omega arith)))
+pub put_one-requires : goal.put_one-requires
+put_one-requires c =
+    (omega arith, rw c.section-keys.ensures (c.requires.1 c.loop-i.i (omega arith)))
 
 pub overflow_add-k : goal.overflow_add-k
-overflow_add-k c = omega (arith, c.wide-k.ensures, c.put_one-r.ensures.few)
+overflow_add-k c = omega (arith, c.put_one.ensures.few)
 
 pub loop-i-preserved : goal.loop-i-preserved
 loop-i-preserved c =
     let l = c.loop-i in
     let a = c.args in
     let f = action_rows (section_of a.pack.now 0) in
-    let put = c.put_one-r in
-    let id = c.of_number.result in
+    let put = c.put_one in
+    let id = get_or a.programs.now l.i Unresolved in
     let one : Puts a.mints.now (section_of a.pack.now 0) a.pack.now f action_width (candidate a.at.now id l.i l.k) put.result l.out put.new.out =
-    rw (c.section-keys.ensures, c.wide.ensures) at put.ensures in (
-      omega (arith, c.wide-k.ensures, one.few),
+    rw c.section-keys.ensures at put.ensures in (
+      omega (arith, one.few),
       put.auto.out ∙ l.invariant.1,
-      rw c.wide-k.ensures (fills-more a.mints.now a.pack.now a.at.now f id action_width l.i l.k put.result a.out.now l.out _ l.invariant.2 one),
+      (fills-more a.mints.now a.pack.now a.at.now f id action_width l.i l.k put.result a.out.now l.out _ l.invariant.2 one),
     )
 
 pub shape_of-out : goal.shape_of-out

@@ -80,5 +80,5 @@ returns-in-Leg c =
       rows =
           λ table h.
           rw
-          (leg-swap a.names.now ks pools table v, is-leg a.mints.now a.names.now ks pools v s e table h small small2, c.put_leg.ensures, c.mint-spent.ensures, c.mint-bought.ensures, c.wide-program.ensures, c.program.ensures);
+          (leg-swap a.names.now ks pools table v, is-leg a.mints.now a.names.now ks pools v s e table h small small2, c.put_leg.ensures, c.mint-spent.ensures, c.mint-bought.ensures, c.program.ensures);
     }

@@ -19,13 +19,13 @@ loop-i-init c =
 
 pub put_one-r-requires : goal.put_one-r-requires
 put_one-r-requires c =
-    (omega arith, rw (c.section-keys.ensures, c.wide.ensures) (c.of_number.ensures ∙ c.requires.1 c.loop-i.i (omega arith)))
+    (omega arith, rw c.section-keys.ensures (c.requires.1 c.loop-i.i (omega arith)))
 
 pub number-requires : goal.number-requires
 number-requires c = (c.put_one-r.ensures.few, omega arith)
 
 pub overflow_add-k : goal.overflow_add-k
-overflow_add-k c = omega (arith, c.wide-k.ensures, c.put_one-r.ensures.few)
+overflow_add-k c = omega (arith, c.put_one-r.ensures.few)
 
 pub loop-i-preserved : goal.loop-i-preserved
 loop-i-preserved c =
@@ -33,12 +33,12 @@ loop-i-preserved c =
     let a = c.args in
     let f = leg_rows_in a.names.now a.pack.now in
     let put = c.put_one-r in
-    let id = c.of_number.result in
+    let id = get_or a.programs.now l.i Unresolved in
     let one : Puts a.mints.now (section_of a.pack.now 0) a.pack.now f leg_width (candidate a.at.now id l.i l.k) put.result l.out put.new.out =
-    rw (c.section-keys.ensures, c.section-pools.ensures, c.wide.ensures) at put.ensures in (
-      omega (arith, c.wide-k.ensures, one.few),
+    rw (c.section-keys.ensures, c.section-pools.ensures) at put.ensures in (
+      omega (arith, one.few),
       put.auto.out ∙ l.invariant.1,
-      rw c.wide-k.ensures (fills-more a.mints.now a.pack.now a.at.now f id leg_width l.i l.k put.result a.out.now l.out _ l.invariant.2 one),
+      (fills-more a.mints.now a.pack.now a.at.now f id leg_width l.i l.k put.result a.out.now l.out _ l.invariant.2 one),
       rw c.number.ensures (numbers_more a.mints.now a.pack.now a.at.now f id leg_width l.i l.k put.result a.out.now l.out _ a.leg.now l.leg l.invariant.3 l.invariant.2 one),
     )
 

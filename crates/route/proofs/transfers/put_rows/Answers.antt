@@ -23,7 +23,7 @@ loop-i-init c =
 
 pub put_one-r-requires : goal.put_one-r-requires
 put_one-r-requires c =
-    (omega arith, rw (c.section-keys.ensures, c.wide.ensures) (c.of_number.ensures ∙ c.requires.1 c.loop-i.i (omega arith)))
+    (omega arith, rw c.section-keys.ensures (c.requires.1 c.loop-i.i (omega arith)))
 
 pub overflow_add-k : goal.overflow_add-k
 overflow_add-k c = omega (arith, c.rows-k.ensures, rows-le c.put_one-r.result)
@@ -34,12 +34,11 @@ loop-i-preserved c =
     let a = c.args in
     let f = transfer_rows (section_of a.pack.now 0) in
     let put = c.put_one-r in
-    let id = c.of_number.result in
+    let id = get_or a.programs.now l.i Unresolved in
     let keys = c.section-keys.ensures in
-    let offset = c.wide.ensures in
     let one : Puts a.mints.now (section_of a.pack.now 0) a.pack.now f transfer_width (candidate a.at.now id l.i l.k) (transfer_count put.result) l.out put.new.out =
-    rw (keys, offset) at put.ensures.puts in
-    let told : put.result ≡ reason_in (section_of a.pack.now 0) (item_at a.pack.now a.at.now l.i) = rw (keys, offset) at put.ensures.value in (
+    rw keys at put.ensures.puts in
+    let told : put.result ≡ reason_in (section_of a.pack.now 0) (item_at a.pack.now a.at.now l.i) = rw keys at put.ensures.value in (
       omega (arith, c.rows-k.ensures, one.few),
       put.auto.out ∙ l.invariant.1,
       rw c.rows-k.ensures (fills-more a.mints.now a.pack.now a.at.now f id transfer_width l.i l.k (transfer_count put.result) a.out.now l.out _ l.invariant.2 one),
