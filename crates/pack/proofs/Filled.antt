@@ -13,6 +13,7 @@ use Rattle.std.specs.Prelude.{Err}
 use Rattle.wire.specs.Le.{le}
 use Rattle.pack.specs.declared.Refusal.{Refusal}
 use Rattle.pack.specs.declared.Refusal.TheVariants.{Mark, Starts, Section, Keys, Balances, Invocations}
+use Rattle.pack.specs.declared.chain.Chains.{Chains}
 use Rattle.pack.specs.Invocation.{instruction_at}
 use Rattle.pack.specs.Sections.{start_of, section_of}
 use Rattle.pack.specs.Items.{outers_at, outers_whole, group_good, group_at, groups_at, groups_whole}
@@ -74,13 +75,14 @@ module _ (p s g : List ℕ) (o : ℕ) (e : refusal_number (verdict p) ≡ 0) (is
         rw (kept-at k h) (omega (arith, i.0, groups-room.2), omega (arith, (kept-is k h).1, total))
 
     -- chains over them lead to all groups of an outer instruction
-    pub chained : (next first : List ℕ) → Linked g (take n place) next first → (i : ℕ) → i < length (outers_at s) → Chained g i place next (get_or first i 0)
-    chained next first linked i h =
+    pub chained : (chains : Chains) → chains.place ≡ place → Linked g (take n place) chains.next chains.first → (i : ℕ) → i < length (outers_at s) → Chained g chains i
+    chained chains same linked i h =
         let t = ap length kept-laid in
         record {
+          listed = omega (arith, total);
           gs = kept_at g o;
           few = groups-room.1;
-          places = λ k l. kept-at k (omega arith);
+          places = λ k l. rw same (kept-at k (omega arith));
           links = λ k l. rw kept-laid at (linked.links k (omega arith));
           head = rw kept-laid at (linked.heads i (omega (arith, total)));
           good = λ k l. (group-inside g (get_or (kept_at g o) k 0) (kept-is k (omega arith)).0).1;
@@ -102,16 +104,16 @@ module _ (p s g : List ℕ) (o : ℕ) (e : refusal_number (verdict p) ≡ 0) (is
   laid_out = rw (eq-eqb (refusal_number (verdict p)) 0 e, is-s, is-g)
 
 -- what the walk over the outer instructions needs to know, of sections and starts that were read from the pack
-pub record Ready (p outs s : List ℕ) (from base : ℕ) (place next first : List ℕ) : Type 0 where
+pub record Ready (p outs s : List ℕ) (from base : ℕ) (chains : Chains) : Type 0 where
   pub whole : outers_whole outs ≡ true
   pub ends : (from + length outs ≤ 61440) × (base + length s ≤ 61440)
   pub few : length (spread_of from base s (outers_at outs)) ≤ 1024
   pub laid : layout p ≡ spread_of from base s (outers_at outs)
-  pub chains : (i : ℕ) → i < length (outers_at outs) → Chained s i place next (get_or first i 0)
+  pub linked : (i : ℕ) → i < length (outers_at outs) → Chained s chains i
 
-pub ready : (p outs s : List ℕ) (from base : ℕ) (place next first : List ℕ) → refusal_number (verdict p) ≡ 0 → AllChained p place next first
-    → outs ≡ section_of p 2 → s ≡ section_of p 3 → from ≡ start_of p 2 → base ≡ start_of p 3 → Ready p outs s from base place next first
-ready p outs s from base place next first e ch a b c d =
+pub ready : (p outs s : List ℕ) (from base : ℕ) (chains : Chains) → refusal_number (verdict p) ≡ 0 → AllChained p chains
+    → outs ≡ section_of p 2 → s ≡ section_of p 3 → from ≡ start_of p 2 → base ≡ start_of p 3 → Ready p outs s from base chains
+ready p outs s from base chains e ch a b c d =
     let o = length (outers_at (section_of p 2)) in
     rw (a, b, c, d)
     (record {
@@ -119,7 +121,7 @@ ready p outs s from base place next first e ch a b c d =
       ends = ends p (section_of p 2) (section_of p 3) o e refl refl refl;
       few = spread-room p (section_of p 2) (section_of p 3) o e refl refl refl;
       laid = laid_out p (section_of p 2) (section_of p 3) o e refl refl refl;
-      chains = ch;
+      linked = ch;
     })
 
 -- every refusal has a number

@@ -2,6 +2,7 @@
 -- Assumes nothing.
 use Rattle.std.specs.Prelude.{ℕ, suc, ◌+◌, ◌<◌, ◌≤◌, ◌≡◌, Bool, cond, ◌&&◌, List, [], ◌∷◌, eqb, ltb, length, get_or, drop}
 use Rattle.wire.specs.Le.{le}
+use Rattle.pack.specs.declared.chain.Chains.{Chains}
 use Rattle.pack.specs.Sections.{section_of}
 use Rattle.pack.specs.Items.{outers_at, count_at, group_end, groups_at}
 use Rattle.pack.specs.Layout.{inside_at}
@@ -33,20 +34,22 @@ pub record Linked (s gs next first : List ℕ) : Type 0 where
   -- and each outer its first group
   pub heads : (i : ℕ) → i < 1024 → get_or first i 0 ≡ first_group_from s i 0 gs
 
--- two arrays that lead from group to group of outer i, from the first one on, whose place is one lower than `group`
-pub record Chained (s : List ℕ) (i : ℕ) (place next : List ℕ) (group : ℕ) : Type 0 where
+-- chains that lead from group to group of outer i
+pub record Chained (s : List ℕ) (chains : Chains) (i : ℕ) : Type 0 where
+  -- outer i has a first group, or none
+  pub listed : i < 1024
   -- the groups that are remembered
   pub gs : List ℕ
   pub few : length gs ≤ 1024
   -- where each stands, and the next of its outer
-  pub places : (k : ℕ) → k < length gs → get_or place k 0 ≡ get_or gs k 0
-  pub links : (k : ℕ) → k < length gs → get_or next k 0 ≡ next_of s gs k
-  pub head : group ≡ first_group_from s i 0 gs
+  pub places : (k : ℕ) → k < length gs → get_or chains.place k 0 ≡ get_or gs k 0
+  pub links : (k : ℕ) → k < length gs → get_or chains.next k 0 ≡ next_of s gs k
+  pub head : get_or chains.first i 0 ≡ first_group_from s i 0 gs
   -- each lies in the section
   pub good : (k : ℕ) → k < length gs → group_end s (get_or gs k 0) ≤ length s
   -- none of outer i is left out
   pub complete : (base : ℕ) → inside_at s base i gs ≡ inside_at s base i (groups_at s)
 
--- three arrays that do so for every outer instruction of a pack
-abbrev pub AllChained : List ℕ → List ℕ → List ℕ → List ℕ → Type 0
-AllChained p place next first = (i : ℕ) → i < length (outers_at (section_of p 2)) → Chained (section_of p 3) i place next (get_or first i 0)
+-- chains that do so for every outer instruction of a pack
+abbrev pub AllChained : List ℕ → Chains → Type 0
+AllChained p chains = (i : ℕ) → i < length (outers_at (section_of p 2)) → Chained (section_of p 3) chains i

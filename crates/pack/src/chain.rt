@@ -1,7 +1,7 @@
 // The groups of a pack that are kept and not empty, chained by the outer instruction that they name.
 //
 // Only these are remembered, and a chain leads from each to the next of its outer instruction, so that the work grows with the pack and not with the number
-// of outer instructions times the number of groups. The arrays that remember them hold 16 bits each, since every call has to zero them.
+// of outer instructions times the number of groups.
 ghost use Rattle.std.specs.Prelude.{◌≡◌, true, ℕ, ◌≤◌, ◌<◌, length, get_or, take};
 ghost use Rattle.std.proofs.lemmas.List.Edits.{sets};
 ghost use Rattle.wire.specs.Le.{le};
@@ -9,6 +9,15 @@ ghost use Rattle.wire.specs.Zeros.{zeros};
 ghost use Rattle.pack.specs.Items.{outers_at, outers_whole, inners_end, groups_whole};
 ghost use Rattle.pack.specs.Verdict.{verdict, refusal_number};
 ghost use Rattle.pack.specs.Loops.{keeps as keeps_of, kept_at, Linked, AllChained};
+
+// The groups that are remembered: where each stands in section 3, and, one higher than it is, the next of its outer instruction and the first of each outer
+// instruction, 0 where there is none. They are codes of 16 bits each, since every call has to zero them.
+#[derive(Drop)]
+pub(crate) struct Chains {
+    pub(crate) place: [u16; 1024],
+    pub(crate) next: [u16; 1024],
+    pub(crate) first: [u16; 1024],
+}
 
 // How many instructions section 2 has.
 fn outer_count(s: &[u8]) -> usize
@@ -67,30 +76,25 @@ fn kept_places(s: &[u8], o: usize, place: &mut [u16; 1024]) -> usize
 }
 
 // Chains the groups of each outer instruction, the last group first.
-fn link(s: &[u8], place: &[u16; 1024], n: usize, next: &mut [u16; 1024], first: &mut [u16; 1024])
-    requires n_bound { (n ≤ 1024) × (length place.now ≡ 1024) × (length next.old ≡ 1024) × (first.old ≡ zeros 1024) }
-    requires by_index { (k : ℕ) → k < n → (get_or place.now k 0 ≤ 61440) × (le 4 s.now (get_or place.now k 0) < 1024) }
-    ensures { Linked s.now (take n place.now) next.new first.new }
+fn link(s: &[u8], n: usize, chains: &mut Chains)
+    requires n_bound { (n ≤ 1024) × (chains.old.first ≡ zeros 1024) }
+    requires by_index { (k : ℕ) → k < n → (get_or chains.old.place k 0 ≤ 61440) × (le 4 s.now (get_or chains.old.place k 0) < 1024) }
+    ensures { (chains.new.place ≡ chains.old.place) × Linked s.now (take n chains.old.place) chains.new.next chains.new.first }
 {
     for k in (0..n).rev() {
-        let i = wire::u32_at(s, place[k] as usize) as usize;
-        next[k] = first[i];
-        first[i] = k as u16 + 1;
+        let i = wire::u32_at(s, chains.place[k] as usize) as usize;
+        chains.next[k] = chains.first[i];
+        chains.first[i] = k as u16 + 1;
     }
 }
 
 // All of it, for a pack that no refusal meets.
-pub(crate) fn chain(
-    pack: &[u8],
-    place: &mut [u16; 1024],
-    next: &mut [u16; 1024],
-    first: &mut [u16; 1024],
-)
-    requires { (refusal_number (verdict pack.now) ≡ 0) × (length place.old ≡ 1024) × (length next.old ≡ 1024) × (first.old ≡ zeros 1024) }
-    ensures { AllChained pack.now place.new next.new first.new }
+pub(crate) fn chain(pack: &[u8], chains: &mut Chains)
+    requires { (refusal_number (verdict pack.now) ≡ 0) × (chains.old.first ≡ zeros 1024) }
+    ensures { AllChained pack.now chains.new }
 {
     let o = outer_count(super::section(pack, 2));
     let s = super::section(pack, 3);
-    let n = kept_places(s, o, place);
-    link(s, place, n, next, first);
+    let n = kept_places(s, o, &mut chains.place);
+    link(s, n, chains);
 }

@@ -6,6 +6,7 @@ ghost use Rattle.pack.specs.Layout.{members_at, inside_at, raised, Wrote, layout
 ghost use Rattle.pack.specs.Loops.{Chained, AllChained};
 
 use super::Refusal;
+use super::chain::Chains;
 use super::position::{BLANK, Place};
 
 // A height as the arrays hold it.
@@ -19,17 +20,16 @@ fn height_code(s: &[u8], at: usize) -> u64
     super::four(s, at + 1) as u64 + 1
 }
 
-// How far the groups of an outer instruction are written: where their section starts in the pack, the outer instruction, the group that comes next as the
-// chain has it (one higher, 0 after the last), and the index of the arrays that it goes to.
+// How far the invocations are written: where the section of groups starts in the pack, the outer instruction whose groups come next, and the index of the
+// arrays that they go to.
 #[derive(Clone, Copy)]
 struct Way {
     base: usize,
     outer: u32,
-    group: usize,
     index: usize,
 }
 
-// The instructions of the group that comes next, which stands at g.
+// The instructions of the group at g; what is answered is the index that is then reached.
 fn members(s: &[u8], g: usize, way: Way, at: &mut [u32; 1024], places: &mut [Place; 1024]) -> usize
     requires { (way.index + count_at s.now g ≤ 1024) × (group_end s.now g ≤ length s.now) × (way.base + length s.now ≤ 61440) }
     ensures { Wrote (members_at s.now way.base way.outer g) way.index result at.old at.new places.old places.new }
@@ -50,76 +50,55 @@ fn members(s: &[u8], g: usize, way: Way, at: &mut [u32; 1024], places: &mut [Pla
     way.index + count
 }
 
-// The groups of an outer instruction, from the first one on.
+// The groups of an outer instruction, one after the other.
 fn own_groups(
     s: &[u8],
-    place: &[u16; 1024],
-    next: &[u16; 1024],
-    way: Way,
+    chains: &Chains,
+    mut way: Way,
     at: &mut [u32; 1024],
     places: &mut [Place; 1024],
 ) -> usize
-    requires chained { Chained s.now way.outer place.now next.now way.group }
+    requires chained { Chained s.now chains.now way.outer }
     requires s_bound { way.index + length (inside_at s.now way.base way.outer (groups_at s.now)) ≤ 1024 }
     requires s_bound_2 { way.base + length s.now ≤ 61440 }
     ensures { Wrote (inside_at s.now way.base way.outer (groups_at s.now)) way.index result at.old at.new places.old places.new }
 {
-    let base = way.base;
-    let i = way.outer;
-    let mut c = way.group;
-    let mut k = way.index;
+    let mut c = chains.first[way.outer as usize] as usize;
     while 0 < c {
-        let here = Way {
-            base,
-            outer: i,
-            group: c,
-            index: k,
-        };
-        k = members(s, place[c - 1] as usize, here, at, places);
-        c = next[c - 1] as usize;
+        way.index = members(s, chains.place[c - 1] as usize, way, at, places);
+        c = chains.next[c - 1] as usize;
     }
-    k
+    way.index
 }
 
 // Each outer instruction with its groups, which the chains lead to, of a pack that no refusal meets.
-fn spread(
-    pack: &[u8],
-    place: &[u16; 1024],
-    next: &[u16; 1024],
-    first: &[u16; 1024],
-    at: &mut [u32; 1024],
-    places: &mut [Place; 1024],
-) -> usize
-    requires { (refusal_number (verdict pack.now) ≡ 0) × AllChained pack.now place.now next.now first.now }
+fn spread(pack: &[u8], chains: &Chains, at: &mut [u32; 1024], places: &mut [Place; 1024]) -> usize
+    requires { (refusal_number (verdict pack.now) ≡ 0) × AllChained pack.now chains.now }
     ensures { Wrote (layout pack.now) 0 result at.old at.new places.old places.new }
 {
     let outs = super::section(pack, 2);
     let s = super::section(pack, 3);
     let from = super::trailer::start(pack, 2);
     let base = super::trailer::start(pack, 3);
-    let mut n = 0;
-    let mut i = 0;
+    let mut way = Way {
+        base,
+        outer: 0,
+        index: 0,
+    };
     let mut to = 0;
     while to < outs.len() {
-        at[n] = (from + to) as u32;
-        places[n] = Place {
-            outer: i,
+        at[way.index] = (from + to) as u32;
+        places[way.index] = Place {
+            outer: way.outer,
             inner: 0,
             height: 2,
         };
-        n += 1;
-        let group = first[i as usize] as usize;
-        let way = Way {
-            base,
-            outer: i,
-            group,
-            index: n,
-        };
-        n = own_groups(s, place, next, way, at, places);
+        way.index += 1;
+        way.index = own_groups(s, chains, way, at, places);
+        way.outer += 1;
         to = super::item_end(outs, to);
-        i += 1;
     }
-    n
+    way.index
 }
 
 // The invocations of a pack that no refusal meets.
@@ -127,11 +106,13 @@ fn fill(pack: &[u8], at: &mut [u32; 1024], places: &mut [Place; 1024]) -> usize
     requires { refusal_number (verdict pack.now) ≡ 0 }
     ensures { Wrote (layout pack.now) 0 result at.old at.new places.old places.new }
 {
-    let mut place = [0u16; 1024];
-    let mut next = [0u16; 1024];
-    let mut first = [0u16; 1024];
-    super::chain::chain(pack, &mut place, &mut next, &mut first);
-    spread(pack, &place, &next, &first, at, places)
+    let mut chains = Chains {
+        place: [0; 1024],
+        next: [0; 1024],
+        first: [0; 1024],
+    };
+    super::chain::chain(pack, &mut chains);
+    spread(pack, &chains, at, places)
 }
 
 // The invocations of a pack in execution order, and how many they are; the arrays are blank behind them, and all of them where the pack is refused. It judges

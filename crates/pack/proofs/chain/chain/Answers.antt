@@ -10,7 +10,7 @@ use mathlib.Core.Path.{◌≡◌, refl, ap, ◌∙◌}
 use lib.ListN.{length}
 use lib.Seq.{length-sets}
 use Rattle.pack.proofs.chain.chain.Goals as goal
-use Rattle.pack.proofs.chain.chain.Goals.{After-outer_count-o}
+use Rattle.pack.proofs.chain.chain.Goals.{After-outer_count-o, After-kept_places-n}
 
 pub outer_count-o-requires : goal.outer_count-o-requires
 outer_count-o-requires c = rw c.section.ensures (passed c.args.pack.now c.requires.0).outers
@@ -18,6 +18,13 @@ outer_count-o-requires c = rw c.section.ensures (passed c.args.pack.now c.requir
 -- how many outer instructions there are
 count : (c : After-outer_count-o) → c.outer_count-o.result ≡ length (outers_at (section_of c.args.pack.now 2))
 count c = c.outer_count-o.ensures ∙ rw c.section.ensures
+
+-- the array that the places are written into
+long : (c : After-kept_places-n) → length c.args.chains.now.place ≡ 1024
+long c =
+    let w = c.kept_places-n in
+    let e = ap length w.ensures.1 ∙ length-sets c.args.chains.now.place 0 (kept_at c.section-s.result.now c.outer_count-o.result) in
+    omega (arith, w.array_long)
 
 pub kept_places-n-requires : goal.kept_places-n-requires
 kept_places-n-requires c =
@@ -28,13 +35,14 @@ pub link-requires : goal.link-requires
 link-requires c =
     let g = c.section-s in
     let p = c.args.pack.now in
-    let z = c.args.place.now in
+    let z = c.args.chains.now.place in
     let o = c.outer_count-o.result in
     let w = c.kept_places-n.ensures in
-    let room = groups-room p (section_of p 2) g.result.now o c.requires.0 refl g.ensures (count (goal.at.link-requires c).After-outer_count-o) in
+    let e = count (goal.at.link-requires c).After-outer_count-o in
+    let room = groups-room p (section_of p 2) g.result.now o c.requires.0 refl g.ensures e in
     record {
-      n_bound = (omega (arith, w.0, room.1), ap length w.1 ∙ length-sets z 0 (kept_at g.result.now o) ∙ c.requires.1, c.requires.2, c.requires.3);
-      by_index = kept-room p (section_of p 2) g.result.now o c.requires.0 refl g.ensures (count (goal.at.link-requires c).After-outer_count-o) z _ c.kept_places-n.result c.requires.1 w.0 w.1;
+      n_bound = (omega (arith, w.0, room.1), c.requires.1);
+      by_index = kept-room p (section_of p 2) g.result.now o c.requires.0 refl g.ensures e z _ c.kept_places-n.result (long (goal.at.link-requires c).After-kept_places-n) w.0 w.1;
     }
 
 pub returns : goal.returns
@@ -42,5 +50,6 @@ returns c =
     let g = c.section-s in
     let p = c.args.pack.now in
     let w = c.kept_places-n.ensures in
+    let l = c.link.ensures in
     rw (← g.ensures)
-    (chained p (section_of p 2) g.result.now c.outer_count-o.result c.requires.0 refl g.ensures (count (goal.at.returns c).After-outer_count-o) c.args.place.now _ c.kept_places-n.result c.requires.1 w.0 w.1 _ _ c.link.ensures)
+    (chained p (section_of p 2) g.result.now c.outer_count-o.result c.requires.0 refl g.ensures (count (goal.at.returns c).After-outer_count-o) c.args.chains.now.place _ c.kept_places-n.result (long (goal.at.returns c).After-kept_places-n) w.0 w.1 _ l.0 l.1)

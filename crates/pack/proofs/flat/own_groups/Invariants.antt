@@ -17,7 +17,7 @@ abbrev pub Rest : {A : Type 0} → List ℕ → ℕ → ℕ → ℕ → ℕ → 
 Rest s base i k n gs f l₀ l = sets l k (map f (inside_at s base i gs)) ≡ sets l₀ n (map f (inside_at s base i (groups_at s)))
 
 abbrev pub invariant-loop-c : goal.invariant-loop-c
-invariant-loop-c l = (ch : Chained l.s l.i l.place l.next l.initial.c) × (t : ℕ) × (l.c ≡ first_group_from l.s l.i t (drop t ch.gs)) × (l.k + length (inside_at l.s l.base l.i (drop t ch.gs)) ≡ l.initial.k + length (inside_at l.s l.base l.i (groups_at l.s))) × Rest l.s l.base l.i l.k l.initial.k (drop t ch.gs) at_of l.initial.at l.at × Rest l.s l.base l.i l.k l.initial.k (drop t ch.gs) place_held l.initial.places l.places
+invariant-loop-c l = (base : l.way.base ≡ l.initial.way.base) × (outer : l.way.outer ≡ l.initial.way.outer) × (ch : Chained l.s l.chains l.way.outer) × (t : ℕ) × (l.c ≡ first_group_from l.s l.way.outer t (drop t ch.gs)) × (l.way.index + length (inside_at l.s l.way.base l.way.outer (drop t ch.gs)) ≡ l.initial.way.index + length (inside_at l.s l.way.base l.way.outer (groups_at l.s))) × Rest l.s l.way.base l.way.outer l.way.index l.initial.way.index (drop t ch.gs) at_of l.initial.at l.at × Rest l.s l.way.base l.way.outer l.way.index l.initial.way.index (drop t ch.gs) place_held l.initial.places l.places
 
 abbrev pub decreases-loop-c : goal.decreases-loop-c
 decreases-loop-c l = ahead l.c

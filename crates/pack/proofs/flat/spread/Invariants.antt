@@ -21,7 +21,7 @@ abbrev pub Rest : {A : Type 0} → List ℕ → ℕ → ℕ → List ℕ → ℕ
 Rest s base from outs i to n f l₀ l = sets l n (map f (left s base from outs i to)) ≡ sets l₀ 0 (map f (spread_of from base s (outers_at outs)))
 
 abbrev pub invariant-loop-to : goal.invariant-loop-to
-invariant-loop-to l = Reached l.outs l.i l.to × (l.i ≤ l.n) × (l.n + length (left l.s l.base l.from l.outs l.i l.to) ≡ length (spread_of l.from l.base l.s (outers_at l.outs))) × Rest l.s l.base l.from l.outs l.i l.to l.n at_of l.initial.at l.at × Rest l.s l.base l.from l.outs l.i l.to l.n place_held l.initial.places l.places
+invariant-loop-to l = (base : l.way.base ≡ l.base) × Reached l.outs l.way.outer l.to × (l.way.outer ≤ l.way.index) × (l.way.index + length (left l.s l.base l.from l.outs l.way.outer l.to) ≡ length (spread_of l.from l.base l.s (outers_at l.outs))) × Rest l.s l.base l.from l.outs l.way.outer l.to l.way.index at_of l.initial.at l.at × Rest l.s l.base l.from l.outs l.way.outer l.to l.way.index place_held l.initial.places l.places
 
 abbrev pub decreases-loop-to : goal.decreases-loop-to
 decreases-loop-to l = length l.outs - l.to
