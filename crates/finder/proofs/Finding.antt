@@ -1,22 +1,40 @@
 -- What each way of `find` makes of what its calls found, and what that is for a whole block.
 -- Assumes nothing.
 use mathlib.Core.Path.{◌≡◌, sym, ap, ◌∙◌}
-use mathlib.Core.Bool.{true}
+use mathlib.Core.Bool.{Bool, true}
 use mathlib.Core.List.{List}
 use Prim.Native.Nat.{ℕ, suc, ◌+◌, ◌-◌, ◌≤◌, ◌<◌}
 use native.Mathlib.Nat.{zero-add, add-zero, sub_self}
 use native.Mathlib.Omega.{arith}
-use lib.ListN.{length, get_or, get_or-eq_default}
+use lib.ListN.{length, get_or, get_or-eq_default, take}
+use Rattle.std.proofs.lemmas.List.{length-take-le, get_or-take}
 use Rattle.wire.specs.Tab.{tab}
-use Rattle.wire.proofs.Tab.{tab-length, tab-at}
-use Rattle.pack.specs.Invocation.{Position}
+use Rattle.wire.proofs.Tab.{tab-length, tab-at, tab-same}
+use Rattle.pack.specs.declared.position.Place.{Place}
+use Rattle.pack.specs.Invocation.{Position, position_of, blank_place, position_in_places}
 use Rattle.subtrees.specs.Blocks.{end_from, block_size}
-use Rattle.subtrees.specs.Subtrees.{within, end_of, joined, bits_in, inside_of}
+use Rattle.subtrees.specs.Subtrees.{within, end_of, joined, bits_in, inside_of, positions}
+use Rattle.subtrees.specs.Descendant.{descendant}
+use Rattle.subtrees.proofs.Arrays.{positions-length, within-at}
 use Rattle.subtrees.proofs.Transitive.{within-trans}
 use Rattle.subtrees.proofs.Blocks.{end_ge, end-le, after, jump}
 use Rattle.subtrees.proofs.Inside.{bits_none, bits-child}
 use Rattle.finder.specs.declared.Found.{Found}
-use Rattle.finder.specs.Found.{FoundFrom, FoundBlock}
+use Rattle.finder.specs.Found.{all_positions, FoundFrom, FoundBlock}
+
+-- the first places of a list stand for the first positions
+pub all-first : (places : List Place) (n : ℕ) → n ≤ length places → all_positions (take n places) ≡ positions places n
+unfolding positions position_in_places
+all-first places n l =
+    rw (length-take-le n places l) (tab-same (position_in_places (take n places)) (position_in_places places) 0 n (λ i p q. ap position_of (get_or-take n places i blank_place (omega arith))))
+
+pub all-length : (places : List Place) → length (all_positions places) ≡ length places
+all-length places = positions-length places (length places)
+
+-- the relation by what the places hold
+pub holds : (places : List Place) (i x : ℕ) (r : Bool) → i < length places → x < length places
+    → r ≡ descendant (position_in_places places i) (position_in_places places x) → within (all_positions places) i x ≡ r
+holds places = within-at places (length places)
 
 module _ (ps : List Position) (own : List ℕ) where
   abbrev n : ℕ
@@ -74,3 +92,18 @@ module _ (ps : List Position) (own : List ℕ) where
     where
       at : (f : ℕ → ℕ) → 0 ≡ get_or (tab f 0 (length ps)) i 0
       at f = sym (get_or-eq_default (tab f 0 n) 0 (omega (arith, tab-length f 0 n)))
+
+-- and so in a list of places: a child's block ends behind the child, and nothing ends behind the last place
+module _ (places : List Place) (own : List ℕ) where
+  pub behind : (at : ℕ) (a : Found) → at < length places → FoundFrom (all_positions places) own at (at + 1) a
+      → (a.end ≡ end_of (all_positions places) at) × (at + 1 ≤ a.end) × (a.end ≤ length places)
+  behind at a l f =
+      let len = all-length places in
+      let w = child-after (all_positions places) own at a (omega arith) f in
+      (w.0, w.1, omega arith)
+
+  pub reached : (i at : ℕ) (r : Found) → at ≤ length places → FoundFrom (all_positions places) own i at r → r.end ≤ length places
+  reached i at r l f =
+      let len = all-length places in
+      let k = found-le (all_positions places) own i at r (omega arith) f in
+      omega arith

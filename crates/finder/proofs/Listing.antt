@@ -10,6 +10,7 @@ use native.Mathlib.Numerals.{add-one}
 use native.Mathlib.Omega.{arith}
 use borrow.Author.Tests.{eq-eqb, ne_eqb}
 use lib.ListN.{length, set, length-append}
+use Rattle.std.proofs.Math.Seq.{set-append_seam}
 use Rattle.wire.specs.Zeros.{zeros}
 use Rattle.pack.specs.Invocation.{Position}
 use Rattle.subtrees.specs.Blocks.{end_from}
@@ -22,15 +23,11 @@ use Rattle.finder.specs.Children.{rising_below, is_child, children_of}
 use Rattle.finder.proofs.Rising.{rising-skip, rising-next, rising-few}
 
 -- the first of the zeros behind a list is stored
-set_first : (a : List ℕ) (k e : ℕ) → set (a ++ zeros (suc k)) (length a) e ≡ (a ++ (e ∷ zeros k))
-set_first [] k e = refl
-set_first (x ∷ a) k e = ap (λ (l : List ℕ). x ∷ l) (set_first a k e)
-
 filled_more : (a : List ℕ) (e : ℕ) → length a < 1024 → set (filled a) (length a) e ≡ filled (a ++ (e ∷ []))
 unfolding filled
 filled_more a e l =
     let s : 1024 - length a ≡ suc (1024 - (length a + 1)) = omega arith in
-    rw (s, length-append a (e ∷ [])) (set_first a (1024 - (length a + 1)) e ∙ sym (append_assoc a (e ∷ []) (zeros (1024 - (length a + 1)))))
+    rw (s, length-append a (e ∷ [])) (set-append_seam a 0 (zeros (1024 - (length a + 1))) e ∙ sym (append_assoc a (e ∷ []) (zeros (1024 - (length a + 1)))))
 
 module _ (ps : List Position) (i : ℕ) where
   abbrev n : ℕ

@@ -12,7 +12,7 @@ use borrow.Author.Tests.{lt-ltb, le-ltb, eq-eqb, ne_eqb}
 use lib.Dec.{ltb, eqb}
 use lib.ListN.{length, get_or, length-append, get_or-append}
 use lib.Seq.{get_or-append_seam}
-use Rattle.subtrees.proofs.Ranges.{lt-or-ge}
+use Rattle.std.proofs.lemmas.Bool.{cases_lt}
 use Rattle.finder.specs.Children.{rising_below}
 
 module _ (f : ℕ → Bool) where
@@ -98,7 +98,7 @@ module _ (f : ℕ → Bool) where
 
       go : (b : Bool) → k < length (cond b (rising_below f m ++ (m ∷ [])) (rising_below f m)) → (k < length (rising_below f m) → get_or (rising_below f m) k 0 < m)
           → get_or (cond b (rising_below f m ++ (m ∷ [])) (rising_below f m)) k 0 < suc m
-      go true h r = pick (lt-or-ge k (length (rising_below f m))) (rw (length-append (rising_below f m) (m ∷ [])) at h) r
+      go true h r = pick (cases_lt k (length (rising_below f m))) (rw (length-append (rising_below f m) (m ∷ [])) at h) r
       go false h r = omega (arith, r h)
 
   -- each is lower than those behind it, so none stands twice
@@ -116,14 +116,14 @@ module _ (f : ℕ → Bool) where
       go : (b : Bool) → k < length (cond b (rising_below f m ++ (m ∷ [])) (rising_below f m))
           → (k < length (rising_below f m) → get_or (rising_below f m) j 0 < get_or (rising_below f m) k 0)
           → get_or (cond b (rising_below f m ++ (m ∷ [])) (rising_below f m)) j 0 < get_or (cond b (rising_below f m ++ (m ∷ [])) (rising_below f m)) k 0
-      go true h r = pick (lt-or-ge k (length (rising_below f m))) (rw (length-append (rising_below f m) (m ∷ [])) at h) r
+      go true h r = pick (cases_lt k (length (rising_below f m))) (rw (length-append (rising_below f m) (m ∷ [])) at h) r
       go false h r = r h
 
 -- those with a number up to i are those with one below i, and those with i
 pub rising-up_to : (g : ℕ → ℕ) (i m : ℕ) → length (rising_below (λ x. ltb (g x) (i + 1)) m) ≡ length (rising_below (λ x. ltb (g x) i) m) + length (rising_below (λ x. eqb (g x) i) m)
 unfolding rising_below
 rising-up_to g i zero = refl
-rising-up_to g i (suc m) = go (lt-or-ge (g m) i) (rising-up_to g i m)
+rising-up_to g i (suc m) = go (cases_lt (g m) i) (rising-up_to g i m)
   where
     up_to : List ℕ
     up_to = rising_below (λ x. ltb (g x) (i + 1)) m

@@ -2,10 +2,15 @@
 -- Assumes nothing.
 use Rattle.std.specs.Prelude.{ℕ, ◌+◌, ◌-◌, ◌≡◌, List, length, get_or}
 use Rattle.wire.specs.Tab.{tab}
+use Rattle.pack.specs.declared.position.Place.{Place}
 use Rattle.pack.specs.Invocation.{Position}
 use Rattle.subtrees.specs.Blocks.{end_from, block_size}
-use Rattle.subtrees.specs.Subtrees.{within, bits_in, ends_of, insides_of}
+use Rattle.subtrees.specs.Subtrees.{within, bits_in, ends_of, insides_of, positions}
 use Rattle.finder.specs.declared.Found.{Found}
+
+-- the positions that all places of a list stand for
+abbrev pub all_positions : List Place → List Position
+all_positions places = positions places (length places)
 
 -- of the block of i from a position on: its end, looked for from there; the bits of the invocations from there to that end; a visit for each of them
 pub record FoundFrom (ps : List Position) (own : List ℕ) (i at : ℕ) (r : Found) : Type 0 where

@@ -8,7 +8,7 @@ use mathlib.Core.Option.{none}
 use Prim.Native.Nat.{ℕ, ◌+◌, ◌-◌, ◌≤◌, ◌<◌, min}
 use native.Mathlib.Nat.{zero-add, eq-or-lt_of_le}
 use native.Mathlib.Omega.{arith}
-use borrow.Author.Tests.{lt-ltb, le-ltb}
+use borrow.Author.Tests.{le-ltb}
 use Rattle.std.proofs.lemmas.Bool.Decides.{nat_tests}
 use lib.ListN.{length, get_or, set, length-append, length-replicate, get_or-append}
 use lib.Seq.{ext_get_or, get_or-append-add, get_or-set_same, get_or-set_other}
@@ -18,7 +18,7 @@ use Rattle.wire.proofs.Tab.{tab-length, tab-at}
 use Rattle.pack.specs.declared.position.Place.{Place}
 use Rattle.pack.specs.Invocation.{Position, position_in_places}
 use Rattle.subtrees.specs.Descendant.{descendant}
-use Rattle.subtrees.proofs.Ranges.{lt-or-ge}
+use Rattle.std.proofs.lemmas.Bool.{cases_lt}
 use Rattle.subtrees.proofs.Blocks.{after}
 use Rattle.wire.specs.Tab.{tab}
 use Rattle.subtrees.specs.Subtrees.{position_in, within, end_of, inside_of, positions, taken, filled, Known}
@@ -63,7 +63,7 @@ known_more ps own ends inside i e b p q x y known m im mn = go (eq-or-lt_of_le i
 pub are-filled : (f : ℕ → ℕ) (n : ℕ) (a : List ℕ) → n ≤ 1024 → length a ≡ 1024
     → ((m : ℕ) → m < n → get_or a m 0 ≡ f m) → ((m : ℕ) → n ≤ m → get_or a m 0 ≡ 0) → a ≡ filled (tab f 0 n)
 unfolding filled
-are-filled f n a l e g h = ext_get_or 0 a (t ++ z) (rw (length-append, zl, tl) (omega arith)) (λ m w. at m (lt-or-ge m n))
+are-filled f n a l e g h = ext_get_or 0 a (t ++ z) (rw (length-append, zl, tl) (omega arith)) (λ m w. at m (cases_lt m n))
   where
     t : List ℕ
     t = tab f 0 n
@@ -93,10 +93,6 @@ filled_at f n k l =
 pub taken-all : (n : ℕ) → n ≤ 1024 → taken n ≡ n
 unfolding taken
 taken-all n l = rw (le-ltb 1024 n l)
-
-pub taken-most : (n : ℕ) → 1024 < n → taken n ≡ 1024
-unfolding taken
-taken-most n l = rw (lt-ltb 1024 n l)
 
 -- how the code says it
 pub taken_min : (n : ℕ) → min n 1024 ≡ taken n

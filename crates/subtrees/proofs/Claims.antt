@@ -1,7 +1,7 @@
 -- What is proved of the ends, bits, parents and tests of any list of positions, and of the contract of `subtrees`.
 -- Assumes nothing.
 use mathlib.Core.Path.{◌≡◌, refl, sym, ap₂, ◌∙◌}
-use mathlib.Core.Bool.{Bool, true, false, ◌&&◌}
+use mathlib.Core.Bool.{Bool, true, false, and-false}
 use mathlib.Core.Option.{Option, none, some}
 use mathlib.Core.Logic.{◌⊎◌, inl, inr}
 use mathlib.Core.List.{List, [], Memᴰ}
@@ -16,7 +16,8 @@ use Rattle.subtrees.specs.Parents.{holders_at}
 use Rattle.subtrees.specs.Subtrees.{position_in, within, has_transfer, has_swap, bits, end_of, inside_of, parent_of, holders_of, line_of, tests_of, insides_of, Subtrees}
 use Rattle.subtrees.proofs.Transitive.{within-trans}
 use Rattle.subtrees.proofs.Blocks as blocks
-use Rattle.subtrees.proofs.Ranges.{lt-or-ge, any_same}
+use Rattle.subtrees.proofs.Ranges.{any_same}
+use Rattle.std.proofs.lemmas.Bool.{cases_lt}
 use Rattle.subtrees.proofs.Bound.{bound}
 use Rattle.subtrees.proofs.Lasts.{list-in, list_of}
 use Rattle.subtrees.proofs.Parents as parents
@@ -27,10 +28,6 @@ inners-none : (a : Option ℕ) (up : Bool) → inners a none up ≡ false
 unfolding inners
 inners-none none up = refl
 inners-none (some a) up = refl
-
-and-false : (b : Bool) → (b && false) ≡ false
-and-false true = refl
-and-false false = refl
 
 module _ (ps : List Position) where
   -- an end lies after its invocation, and is at most n
@@ -96,7 +93,7 @@ module _ (ps : List Position) where
       (and-false (eqb (position_in ps i).outer (position_in ps x).outer))
 
   pub outer-parentless : (x : ℕ) → (position_in ps x).inner ≡ none → parent_of ps x ≡ 0
-  outer-parentless x e = none-parent x (λ y p. go y p (lt-or-ge x (end_of ps y)))
+  outer-parentless x e = none-parent x (λ y p. go y p (cases_lt x (end_of ps y)))
     where
       go : (y : ℕ) → y < x → (x < end_of ps y) ⊎ (end_of ps y ≤ x) → end_of ps y ≤ x
       go y p (inl q) =

@@ -1,11 +1,12 @@
 -- `descendant` and the bits on the numbers that the arrays hold: these are one higher, with 0 for none, which keeps their order.
 -- Assumes nothing.
-use mathlib.Core.Path.{◌≡◌, refl, sym, ap₂, ◌∙◌}
+use mathlib.Core.Path.{◌≡◌, refl, ap₂, ◌∙◌}
 use mathlib.Core.Bool.{Bool, true, false, cond, ◌&&◌, ◌||◌}
 use Prim.Native.Nat.{ℕ, zero, suc, ◌*◌, ◌/◌, ◌%◌, ◌≤◌}
 use native.Mathlib.Omega.{arith}
-use borrow.Author.Tests.{lt-ltb, le-ltb, ne_eqb, eqb-true, eqb-false}
-use lib.Dec.{ltb, eqb, leb-suc-suc}
+use Rattle.std.proofs.lemmas.Bool.Decides.{nat_tests}
+use borrow.Author.Tests.{eqb-true, eqb-false}
+use lib.Dec.{ltb, eqb}
 use lib.Bits.{bit_and, bit_or}
 use Rattle.std.proofs.lemmas.Nat.{and_mask, or_mod, or_shr}
 use Rattle.pack.specs.declared.position.Place.{Place}
@@ -13,24 +14,21 @@ use Rattle.pack.specs.Invocation.{lowered, position_of}
 use Rattle.subtrees.specs.Descendant.{higher, inners, descendant}
 use Rattle.subtrees.specs.Subtrees.{odd, joined}
 
-ltb-suc : (a b : ℕ) → ltb a b ≡ ltb (suc a) (suc b)
-ltb-suc a b = sym (leb-suc-suc (suc a) b)
-
 -- known heights are not 0
 higher-raised : (a b : ℕ) → higher (lowered a) (lowered b) ≡ (ltb 0 a && ltb a b)
 unfolding higher lowered
 higher-raised zero zero = refl
 higher-raised zero (suc b) = refl
-higher-raised (suc a) zero = sym (rw (le-ltb (suc a) 0 (omega arith), lt-ltb 0 (suc a) (omega arith)))
-higher-raised (suc a) (suc b) = ltb-suc a b ∙ sym (rw (lt-ltb 0 (suc a) (omega arith)))
+higher-raised (suc a) zero = grind (arith, nat_tests)
+higher-raised (suc a) (suc b) = grind (arith, nat_tests)
 
 -- an outer's inner index is 0
 inners-raised : (a b : ℕ) (up : Bool) → inners (lowered a) (lowered b) up ≡ (ltb a b && (eqb a 0 || up))
 unfolding inners lowered
 inners-raised zero zero up = refl
-inners-raised zero (suc b) up = sym (rw (lt-ltb 0 (suc b) (omega arith)))
-inners-raised (suc a) zero up = sym (rw (le-ltb (suc a) 0 (omega arith)))
-inners-raised (suc a) (suc b) up = rw (ltb-suc a b) (sym (rw (ne_eqb (suc a) 0 (λ e. omega arith))))
+inners-raised zero (suc b) up = grind (arith, nat_tests)
+inners-raised (suc a) zero up = grind (arith, nat_tests)
+inners-raised (suc a) (suc b) up = grind (arith, nat_tests)
 
 -- the definition in the order of the code's tests
 pub descendant-raised : (p c : Place)

@@ -15,7 +15,7 @@ use lib.Seq.{get_or-set_same, get_or-set_other}
 use Rattle.subtrees.specs.Blocks.{end_at}
 use Rattle.subtrees.specs.Parents.{parent_at}
 use Rattle.subtrees.specs.Subtrees.{since}
-use Rattle.subtrees.proofs.Ranges.{lt-or-ge}
+use Rattle.std.proofs.lemmas.Bool.{cases_lt}
 use Rattle.subtrees.proofs.Blocks.{after}
 use Rattle.subtrees.proofs.Count.{Stands}
 use Rattle.subtrees.proofs.Parents.{parent_is, parent-said, parent-le, parent-past}
@@ -37,7 +37,7 @@ since-now i = rw (lt-ltb i (i + 1) (omega arith))
 -- asking i too changes nothing for one whose parent is not i
 since-other : (i p : ℕ) → p ≢ suc i → since (i + 1) p ≡ since i p
 unfolding since
-since-other i p h = go (lt-or-ge i p)
+since-other i p h = go (cases_lt i p)
   where
     go : (i < p) ⊎ (p ≤ i) → cond (ltb (i + 1) p) p 0 ≡ cond (ltb i p) p 0
     go (inl l) = rw (lt-ltb i p l, lt-ltb (i + 1) p (omega arith))
@@ -73,7 +73,7 @@ module _ (n : ℕ) (holds : ℕ → ℕ → Bool) where
 
   -- before the first walk
   pub parented-none : (x : ℕ) → 0 ≡ since n (parent_at n holds x)
-  parented-none x = go (lt-or-ge x n)
+  parented-none x = go (cases_lt x n)
     where
       go : (x < n) ⊎ (n ≤ x) → 0 ≡ since n (parent_at n holds x)
       go (inl l) = sym (since-late n (parent_at n holds x) (omega (arith, parent-le n holds x)))
@@ -81,7 +81,7 @@ module _ (n : ℕ) (holds : ℕ → ℕ → Bool) where
 
   -- the walk of i begins
   pub parenting-first : (i x : ℕ) → since (i + 1) (parent_at n holds x) ≡ partly i (i + 1) x
-  parenting-first i x = go (lt-or-ge x (i + 1))
+  parenting-first i x = go (cases_lt x (i + 1))
     where
       go : (x < i + 1) ⊎ (i + 1 ≤ x) → since (i + 1) (parent_at n holds x) ≡ partly i (i + 1) x
       go (inl l) = since-other i _ (before i x (omega arith)) ∙ sym (done i (i + 1) x l)
@@ -90,7 +90,7 @@ module _ (n : ℕ) (holds : ℕ → ℕ → Bool) where
   -- it sets the parent of e, and passes its block
   pub parenting-jump : (parents : List ℕ) (i e : ℕ) → e < length parents → i < e → e < end_at n holds i → e < n → Stands n holds i e
       → ((x : ℕ) → get_or parents x 0 ≡ partly i e x) → (x : ℕ) → get_or (set parents e (i + 1)) x 0 ≡ partly i (end_at n holds e) x
-  parenting-jump parents i e len p q l s f x = go (lt-or-ge x e)
+  parenting-jump parents i e len p q l s f x = go (cases_lt x e)
     where
       w : (e + 1 ≤ end_at n holds e) × (end_at n holds e ≤ n)
       w = after n holds e l
@@ -104,7 +104,7 @@ module _ (n : ℕ) (holds : ℕ → ℕ → Bool) where
           rw (← u)
           (get_or-set_same parents e (i + 1) 0 len
           ∙ sym (done i (end_at n holds e) e (omega (arith, w.0)) ∙ ap (since i) (child i e p q s) ∙ since-now i))
-      rest (inr u) = get_or-set_other parents e x (i + 1) 0 (omega arith) ∙ f x ∙ due i e x (omega arith) ∙ later u (lt-or-ge x (end_at n holds e))
+      rest (inr u) = get_or-set_other parents e x (i + 1) 0 (omega arith) ∙ f x ∙ due i e x (omega arith) ∙ later u (cases_lt x (end_at n holds e))
 
       go : (x < e) ⊎ (e ≤ x) → get_or (set parents e (i + 1)) x 0 ≡ partly i (end_at n holds e) x
       go (inl u) =
@@ -113,7 +113,7 @@ module _ (n : ℕ) (holds : ℕ → ℕ → Bool) where
 
   -- it is at its end
   pub parenting-out : (i e x : ℕ) → e ≡ end_at n holds i → partly i e x ≡ since i (parent_at n holds x)
-  parenting-out i e x h = go (lt-or-ge x e)
+  parenting-out i e x h = go (cases_lt x e)
     where
       go : (x < e) ⊎ (e ≤ x) → partly i e x ≡ since i (parent_at n holds x)
       go (inl l) = done i e x l

@@ -12,7 +12,7 @@ use lib.Dec.{ltb}
 use Rattle.wire.proofs.Below.{and_left, and_right}
 use Rattle.subtrees.specs.Blocks.{end_at, in_block}
 use Rattle.subtrees.specs.Parents.{list_below, parent_at, holders_at, line_at}
-use Rattle.subtrees.proofs.Ranges.{lt-or-ge}
+use Rattle.std.proofs.lemmas.Bool.{cases_lt}
 use Rattle.subtrees.proofs.Blocks.{after, past, nested, nested-or-apart}
 use Rattle.subtrees.proofs.Lasts.{last-no, last-is, Last, last_none, last_some, last, list-skip, list_same}
 
@@ -78,7 +78,7 @@ module _ (n : ℕ) (holds : ℕ → ℕ → Bool) where
 
   -- from n on there are no parents, because the blocks end there
   pub parent-past : (x : ℕ) → n ≤ x → parent_at n holds x ≡ 0
-  parent-past x l = parentless-is x (λ y p. go y p (lt-or-ge y n))
+  parent-past x l = parentless-is x (λ y p. go y p (cases_lt y n))
     where
       go : (y : ℕ) → y < x → (y < n) ⊎ (n ≤ y) → end_at n holds y ≤ x
       go y p (inl w) = omega (arith, after n holds y w)
@@ -88,7 +88,7 @@ module _ (n : ℕ) (holds : ℕ → ℕ → Bool) where
     -- the parent's block is the smallest: any other that holds x holds the parent too, with all of its block
     pub smallest : (x y z : ℕ) → x < n → parent_at n holds x ≡ suc y → z < x → x < end_at n holds z
         → (z ≡ y) ⊎ ((z < y) × (y < end_at n holds z) × (end_at n holds y ≤ end_at n holds z))
-    smallest x y z l e p q = go (parent-said x y e) (lt-or-ge y z)
+    smallest x y z l e p q = go (parent-said x y e) (cases_lt y z)
       where
         outer : (y < x) × (x < end_at n holds y) × ((w : ℕ) → y < w → w < x → end_at n holds w ≤ x) → z < y
             → (end_at n holds z ≤ y) ⊎ ((y < end_at n holds z) × (end_at n holds y ≤ end_at n holds z))
@@ -107,7 +107,7 @@ module _ (n : ℕ) (holds : ℕ → ℕ → Bool) where
 
     -- a block before the parent holds the child exactly if it holds the parent
     beyond : (x y z : ℕ) → x < n → y < x → x < end_at n holds y → z < y → in_block n holds z x ≡ in_block n holds z y
-    beyond x y z l p q r = go (lt-or-ge y (end_at n holds z))
+    beyond x y z l p q r = go (cases_lt y (end_at n holds z))
       where
         go : (y < end_at n holds z) ⊎ (end_at n holds z ≤ y) → in_block n holds z x ≡ in_block n holds z y
         go (inl u) = in-yes z x (omega arith) (omega (arith, nested n holds trans z y (omega arith) r u)) ∙ sym (in-yes z y r u)

@@ -1,4 +1,4 @@
--- Laws of `any_in` and `count_in`, by going through the numbers of the range, and the two sides of a number.
+-- Laws of `any_in` and `count_in`, by going through the numbers of the range.
 -- Assumes nothing.
 use mathlib.Core.Path.{◌≡◌, refl, sym}
 use mathlib.Core.Bool.{Bool, true, false, ◌||◌, or-true, or_assoc}
@@ -6,17 +6,7 @@ use mathlib.Core.Logic.{◌⊎◌, inl, inr}
 use Prim.Native.Nat.{ℕ, zero, suc, ◌+◌, ◌≤◌, ◌<◌}
 use native.Mathlib.Nat.{add-zero, zero-add, add-suc, suc-add, eq-or-lt_of_le}
 use native.Mathlib.Omega.{arith}
-use borrow.Author.Tests.{ltb-true, ltb-false}
-use lib.Dec.{ltb}
 use Rattle.subtrees.specs.Blocks.{any_in, count_in}
-
--- a number lies before another, or not
-pub lt-or-ge : (m n : ℕ) → (m < n) ⊎ (n ≤ m)
-lt-or-ge m n = go (ltb m n) refl
-  where
-    go : (b : Bool) → ltb m n ≡ b → (m < n) ⊎ (n ≤ m)
-    go true e = inl (ltb-true m n e)
-    go false e = inr (ltb-false m n e)
 
 module _ (f : ℕ → Bool) where
   pub any-no : (m a : ℕ) → ((y : ℕ) → a ≤ y → y < a + m → f y ≡ false) → any_in f m a ≡ false

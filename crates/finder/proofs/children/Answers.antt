@@ -1,68 +1,50 @@
--- The walk stands at each child once: the children before e are listed, and the block of each is passed whole.
+-- The walk stands at each child once: the children before it are listed, and the block of each is passed whole.
 -- Assumes nothing.
-use Rattle.finder.proofs.Finding.{child-after}
+use Rattle.finder.proofs.Finding.{all-length, holds, behind}
 use Rattle.finder.proofs.Listing.{listed-first, listed-jump, listed-stop, listed-out, listed-nowhere}
-use Rattle.subtrees.specs.Subtrees.{positions, filled}
-use Rattle.subtrees.proofs.Arrays.{positions-length, within-at}
+use Rattle.finder.specs.Found.{all_positions}
+use Rattle.subtrees.specs.Subtrees.{filled}
+use Rattle.pack.specs.Invocation.{blank_place, position_in_places}
 use mathlib.Core.Path.{refl, ◌∙◌}
 use native.Mathlib.Omega.{arith}
 use Rattle.finder.proofs.children.Goals as goal
 
-pub returns-then-m-i : goal.returns-then-m-i
+pub returns-then-run-i : goal.returns-then-run-i
 unfolding filled
-returns-then-m-i c =
-    let a = c.args in
-    let m = c.most-m.result in
-    let ps = positions a.outer.now a.inner.now a.height.now m in
-    let len = positions-length a.outer.now a.inner.now a.height.now m in
-    rw (← c.most-m.ensures.0, listed-nowhere ps a.i (omega (arith, len))) (refl, refl)
+returns-then-run-i c =
+    let r = c.first-run in
+    let places = r.result.places.now in
+    let len = all-length places in
+    rw (← r.ensures.places, listed-nowhere (all_positions places) c.args.i (omega (arith, len))) (refl, refl)
 
-pub loop-e-init : goal.loop-e-init
-loop-e-init c = (omega arith, omega arith, listed-first _ _)
+pub loop-at-init : goal.loop-at-init
+loop-at-init c = (omega arith, omega arith, listed-first _ _)
 
-pub within-requires : goal.within-requires
-within-requires c = (omega arith, omega arith)
+pub loop-at-preserved : goal.loop-at-preserved
+unfolding position_in_places blank_place
+loop-at-preserved c =
+    let l = c.loop-at in
+    let places = c.first-run.result.places.now in
+    let ps = all_positions places in
+    let len = all-length places in
+    let w = behind places c.first-run.result.own.now l.at c.find-at.result (omega arith) c.find-at.ensures in
+    let yes = holds places c.args.i l.at c.descendant.result (omega arith) (omega arith) c.descendant.ensures ∙ c.if-descendant.true in
+    (omega arith, omega arith, rw w.0 (listed-jump ps c.args.i l.list l.count l.at (omega arith) (omega arith) yes l.invariant.2))
 
-pub returns-then-not-within : goal.returns-then-not-within
-returns-then-not-within c =
-    let l = c.loop-e in
-    let a = c.args in
-    let m = c.most-m.result in
-    let ps = positions a.outer.now a.inner.now a.height.now m in
-    let len = positions-length a.outer.now a.inner.now a.height.now m in
-    let no = within-at a.outer.now a.inner.now a.height.now m a.i l.e c.within.result (omega arith) (omega arith) c.within.ensures ∙ c.if-not-within.true in
-    rw (← c.most-m.ensures.0) (listed-stop ps a.i l.list l.count l.e (omega (arith, len)) no l.invariant.2)
+pub returns-else-descendant : goal.returns-else-descendant
+unfolding position_in_places blank_place
+returns-else-descendant c =
+    let l = c.loop-at in
+    let places = c.first-run.result.places.now in
+    let ps = all_positions places in
+    let len = all-length places in
+    let no = holds places c.args.i l.at c.descendant.result (omega arith) (omega arith) c.descendant.ensures ∙ c.if-descendant.false in
+    rw (← c.first-run.ensures.places) (listed-stop ps c.args.i l.list l.count l.at (omega arith) no l.invariant.2)
 
-pub find-child-requires : goal.find-child-requires
-find-child-requires c = (omega arith, omega arith, omega arith)
-
-pub loop-e-smaller : goal.loop-e-smaller
-loop-e-smaller c =
-    let l = c.loop-e in
-    let a = c.args in
-    let m = c.most-m.result in
-    let ps = positions a.outer.now a.inner.now a.height.now m in
-    let len = positions-length a.outer.now a.inner.now a.height.now m in
-    let w = child-after ps a.own.now l.e c.find-child.result (omega (arith, len)) c.find-child.ensures in
-    omega (arith, w.1)
-
-pub loop-e-preserved : goal.loop-e-preserved
-loop-e-preserved c =
-    let l = c.loop-e in
-    let a = c.args in
-    let m = c.most-m.result in
-    let ps = positions a.outer.now a.inner.now a.height.now m in
-    let len = positions-length a.outer.now a.inner.now a.height.now m in
-    let w = child-after ps a.own.now l.e c.find-child.result (omega (arith, len)) c.find-child.ensures in
-    let h = c.within in
-    let yes = within-at a.outer.now a.inner.now a.height.now m a.i l.e h.result (omega arith) (omega arith) h.ensures ∙ c.if-not-within.false in
-    (omega (arith, len, w.2), omega (arith, w.1), rw w.0 (listed-jump ps a.i l.list l.count l.e (omega (arith, len)) (omega (arith, len)) yes l.invariant.2))
-
-pub returns : goal.returns
-returns c =
-    let l = c.loop-e in
-    let a = c.args in
-    let m = c.most-m.result in
-    let ps = positions a.outer.now a.inner.now a.height.now m in
-    let len = positions-length a.outer.now a.inner.now a.height.now m in
-    rw (← c.most-m.ensures.0) (listed-out ps a.i l.list l.count l.e (omega (arith, len)) l.invariant.2)
+pub returns-after-loop-at : goal.returns-after-loop-at
+returns-after-loop-at c =
+    let l = c.loop-at in
+    let places = c.first-run.result.places.now in
+    let ps = all_positions places in
+    let len = all-length places in
+    rw (← c.first-run.ensures.places) (listed-out ps c.args.i l.list l.count l.at (omega arith) l.invariant.2)
