@@ -7,7 +7,6 @@ use Prim.Native.Nat.{ℕ}
 use lib.Dec.{leb, eqb}
 use lib.ListN.{length, get_or, take}
 use borrow.Author.Tests.{ne_eqb, eqb-false}
-use Rattle.wire.specs.Le.{le}
 use Rattle.wire.specs.Same.{same}
 use Rattle.wire.proofs.Same.{same-not-long}
 use Rattle.ids.specs.declared.Id.{Id}
@@ -15,9 +14,8 @@ use Rattle.ids.specs.Which.{number_of}
 use Rattle.token.specs.Programs.{is_token}
 use Rattle.natives.specs.Natives.{is_system, funds, syncs, closes}
 use Rattle.natives.specs.Numbers.{form_of, sized_of}
-use Rattle.std.specs.Prelude.{Some, None}
+use Rattle.std.specs.Prelude.{None}
 use Rattle.std.proofs.lemmas.Bool.Decides.{nat_tests}
-use Rattle.natives.specs.declared.Native.TheVariants.{Fund, Sync, Close}
 use Rattle.natives.proofs.Differences.{not-lone}
 
 -- a byte alone
@@ -45,31 +43,26 @@ head (x ∷ y ∷ z ∷ w ∷ r) = go (eqb (length (x ∷ y ∷ z ∷ w ∷ r)) 
     go false a b c e = simp and-false
 
 -- the three tests, byte by byte
-fund-bytes : (id : Id) (n : ℕ) (d : List ℕ) → funds id n d
-    ≡ (is_system id && (eqb (length d) 12 && eqb (get_or d 0 0) 2 && eqb (get_or d 1 0) 0 && eqb (get_or d 2 0) 0 && eqb (get_or d 3 0) 0) && leb 2 n)
+later : (a b c : Bool) → (a && b && c) ≡ (b && c && a)
+later true b c = simp and-true
+later false b c = simp and-false
+
+pub fund-bytes : (id : Id) (n : ℕ) (d : List ℕ) → funds id n d
+    ≡ (eqb (length d) 12 && eqb (get_or d 0 0) 2 && eqb (get_or d 1 0) 0 && eqb (get_or d 2 0) 0 && eqb (get_or d 3 0) 0 && leb 2 n && is_system id)
 unfolding funds
 fund-bytes id n d = rw (← head d) (go (is_system id))
   where
-    go : (s : Bool) → (s && same (take 4 d) (2 ∷ 0 ∷ 0 ∷ 0 ∷ []) && eqb (length d) 12 && leb 2 n) ≡ (s && (same (take 4 d) (2 ∷ 0 ∷ 0 ∷ 0 ∷ []) && eqb (length d) 12) && leb 2 n)
-    go true = refl
-    go false = refl
+    go : (s : Bool) → (s && same (take 4 d) (2 ∷ 0 ∷ 0 ∷ 0 ∷ []) && eqb (length d) 12 && leb 2 n) ≡ (same (take 4 d) (2 ∷ 0 ∷ 0 ∷ 0 ∷ []) && eqb (length d) 12 && leb 2 n && s)
+    go true = simp and-true
+    go false = simp and-false
 
-sync-bytes : (id : Id) (n : ℕ) (d : List ℕ) → syncs id n d ≡ (is_token id && (eqb (length d) 1 && eqb (get_or d 0 0) 17) && leb 1 n)
+pub sync-bytes : (id : Id) (n : ℕ) (d : List ℕ) → syncs id n d ≡ (eqb (length d) 1 && eqb (get_or d 0 0) 17 && leb 1 n && is_token id)
 unfolding syncs
-sync-bytes id n d = rw (lone d 17)
+sync-bytes id n d = rw (← lone d 17) (later (is_token id) (same d (17 ∷ [])) (leb 1 n))
 
-close-bytes : (id : Id) (n : ℕ) (d : List ℕ) → closes id n d ≡ (is_token id && (eqb (length d) 1 && eqb (get_or d 0 0) 9) && leb 3 n)
+pub close-bytes : (id : Id) (n : ℕ) (d : List ℕ) → closes id n d ≡ (eqb (length d) 1 && eqb (get_or d 0 0) 9 && leb 3 n && is_token id)
 unfolding closes
-close-bytes id n d = rw (lone d 9)
-
--- so what is asked for
-pub form-bytes : (id : Id) (a d : List ℕ) → form_of id a d
-    ≡ cond (is_system id && (eqb (length d) 12 && eqb (get_or d 0 0) 2 && eqb (get_or d 1 0) 0 && eqb (get_or d 2 0) 0 && eqb (get_or d 3 0) 0) && leb 2 (length a)) (Some (Fund (get_or a 1 0) (get_or a 0 0) (le 8 d 4)))
-    (cond (is_token id && (eqb (length d) 1 && eqb (get_or d 0 0) 17) && leb 1 (length a)) (Some (Sync (get_or a 0 0)))
-    (cond (is_token id && (eqb (length d) 1 && eqb (get_or d 0 0) 9) && leb 3 (length a)) (Some (Close (get_or a 0 0) (get_or a 1 0) (get_or a 2 0)))
-    None))
-unfolding form_of
-form-bytes id a d = rw (fund-bytes id (length a) d, sync-bytes id (length a) d, close-bytes id (length a) d)
+close-bytes id n d = rw (← lone d 9) (later (is_token id) (same d (9 ∷ [])) (leb 3 n))
 
 -- no token program is System
 apart : (id : Id) → is_token id ≡ true → is_system id ≡ false
@@ -94,4 +87,4 @@ unsized id accounts d e = go (is_token id) refl e
         rw (p, no-fund (is_system id) (same (take 4 d) (2 ∷ 0 ∷ 0 ∷ 0 ∷ [])) (eqb (length d) 12) (leb 2 (length accounts)) f)
 
 -- what the reader's arms go by
-pub ruleset by_bytes = (form-bytes, nat_tests)
+pub ruleset by_bytes = (fund-bytes, sync-bytes, close-bytes, nat_tests)

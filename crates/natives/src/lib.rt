@@ -64,7 +64,7 @@ pub fn sized(id: Id, len: usize) -> bool
 }
 
 // What program, accounts and data ask for.
-#[tactic(auto, using(crate::proofs::Forms::by_bytes))]
+#[tactic(auto, using(crate::proofs::Forms::by_bytes), unfolding(crate::specs::Numbers::form_of))]
 pub fn form(id: Id, accounts: &[u8], data: &[u8]) -> Option<Native>
     ensures { result ≡ form_of id accounts.now «data».now }
 {
