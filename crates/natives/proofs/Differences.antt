@@ -35,7 +35,7 @@ unfolding funds exact system_transfer size total starts
 fund-accepts id n d = rw (system-program id)
 
 -- two bytes are not one
-not-lone : (x y : ℕ) (r : List ℕ) → eqb (length (x ∷ y ∷ r)) 1 ≡ false
+pub not-lone : (x y : ℕ) (r : List ℕ) → eqb (length (x ∷ y ∷ r)) 1 ≡ false
 not-lone x y r = ne_eqb (length (x ∷ y ∷ r)) 1 (λ (e : length (x ∷ y ∷ r) ≡ 1). omega arith)
 
 -- SyncNative

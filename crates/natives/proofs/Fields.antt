@@ -16,8 +16,9 @@ use Rattle.natives.specs.Natives.{NativeAction, native_action}
 use Rattle.natives.specs.Numbers.{action_value, acted_of, action_in_numbers}
 use Rattle.natives.specs.Rows.{action_width, fields_of, action_row_by}
 use Rattle.natives.specs.declared.Native.{Native}
-use Rattle.natives.specs.declared.Native.TheVariants.{Nothing, Fund, Sync, Close}
+use Rattle.natives.specs.declared.Native.TheVariants.{Fund, Sync, Close}
 use Rattle.natives.proofs.Laws.{native-is}
+use Rattle.std.specs.Prelude as rust
 
 -- a row has the width of the table
 pub row-length : (i kind : ℕ) (h o a : Key) (n : ℕ) → length h ≡ 32 → length o ≡ 32 → length a ≡ 32 → length (fields_of i kind h o a n) ≡ action_width
@@ -53,8 +54,8 @@ action-length κ long count id accounts bytes μ {a} e i =
     by : {x : NativeAction} → length (action_row_by i x.held x.action) ≡ action_width → some x ≡ some a → length (action_row_by i a.held a.action) ≡ action_width
     by {x} h q = subst (λ (y : NativeAction). length (action_row_by i y.held y.action) ≡ action_width) (some-injective x a q) h
 
-    go : (n : Native) → action_value κ n ≡ some a → length (action_row_by i a.held a.action) ≡ action_width
-    go Nothing q = absurd (none-ne-some a q)
-    go (Fund h s l) q = by (row-length i 1 (κ h) (κ s) zero_key l (long h) (long s) zero-length) q
-    go (Sync h) q = by (row-length i 2 (κ h) zero_key zero_key 0 (long h) zero-length zero-length) q
-    go (Close h d o) q = by (row-length i 3 (κ h) (κ d) (κ o) 0 (long h) (long d) (long o)) q
+    go : (n : rust.Option Native) → action_value κ n ≡ some a → length (action_row_by i a.held a.action) ≡ action_width
+    go rust.None q = absurd (none-ne-some a q)
+    go (rust.Some (Fund h s l)) q = by (row-length i 1 (κ h) (κ s) zero_key l (long h) (long s) zero-length) q
+    go (rust.Some (Sync h)) q = by (row-length i 2 (κ h) zero_key zero_key 0 (long h) zero-length zero-length) q
+    go (rust.Some (Close h d o)) q = by (row-length i 3 (κ h) (κ d) (κ o) 0 (long h) (long d) (long o)) q

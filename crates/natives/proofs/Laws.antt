@@ -1,16 +1,15 @@
 -- An action in numbers is the Rust's action: the accounts that it names are there, and only the acted account's mint is looked at.
 -- Assumes nothing.
 use mathlib.Core.Path.{◌≡◌, refl, sym, subst}
-use mathlib.Core.Bool.{Bool, true, false, cond, ◌&&◌, ◌||◌, and-false, false≢true}
+use mathlib.Core.Bool.{Bool, true, false, cond, ◌&&◌, ◌||◌, false≢true}
 use mathlib.Core.List.{List, [], ◌∷◌}
 use mathlib.Core.Option.{Option, none, some}
-use Prim.Native.Nat.{ℕ, ◌+◌, ◌≤◌, ◌<◌}
-use native.Mathlib.Numerals.{add-one}
+use Prim.Native.Nat.{ℕ, ◌≤◌}
 use native.Mathlib.Omega.{arith}
 use lib.Dec.{leb, eqb}
-use lib.ListN.{length, get_or, take, drop}
-use lib.Seq.{drop-cons, drop-length}
-use borrow.Author.Tests.{lt-ltb, le-ltb, leb-true}
+use lib.ListN.{length, take}
+use borrow.Author.Tests.{leb-true}
+use Rattle.std.specs.Prelude as rust
 use Rattle.wire.specs.Same.{same}
 use Rattle.wire.proofs.Same.{same_true}
 use Rattle.wire.proofs.Below.{and_right}
@@ -20,10 +19,10 @@ use Rattle.ids.specs.Keys.{Key, zero_key}
 use Rattle.token.specs.Programs.{is_token}
 use Rattle.ids.specs.Mints.{is_mint, mint_of}
 use Rattle.token.proofs.Laws.{there}
-use Rattle.natives.specs.Natives.{is_system, funds, syncs, closes, asked, indexes_below, wrapped, counted, native_action}
-use Rattle.natives.specs.Numbers.{action_value, form_of, held_by, is_nothing, acted_of, settled, action_in_numbers}
+use Rattle.natives.specs.Natives.{fund, sync, close, NativeAction, is_system, funds, syncs, closes, asked, indexes_below, wrapped, counted, native_action}
+use Rattle.natives.specs.Numbers.{action_value, form_of, held_by, acted_of, settled, action_in_numbers}
 use Rattle.natives.specs.declared.Native.{Native}
-use Rattle.natives.specs.declared.Native.TheVariants.{Nothing, Fund, Sync, Close}
+use Rattle.natives.specs.declared.Native.TheVariants.{Fund, Sync, Close}
 
 module _ (κ : ℕ → Key) (id : Id) (accounts d : List ℕ) where
   fund-floor : funds id (length accounts) d ≡ true → 2 ≤ length accounts
@@ -49,28 +48,23 @@ module _ (κ : ℕ → Key) (id : Id) (accounts d : List ℕ) where
       go false e false f false g = rw (e, f, g)
 
 -- what counts of an action, by its number
-counted-value : (κ : ℕ → Key) (count : ℕ) (accounts : List ℕ) (μ : Key → Option Key) (f : Native) → counted count accounts μ (action_value κ f) ≡ action_value κ (cond (indexes_below count accounts && wrapped (μ (κ (held_by f)))) f Nothing)
+counted-value : (κ : ℕ → Key) (count : ℕ) (accounts : List ℕ) (μ : Key → Option Key) (f : rust.Option Native) → counted count accounts μ (action_value κ f) ≡ action_value κ (cond (indexes_below count accounts && wrapped (μ (κ (held_by f)))) f rust.None)
 unfolding counted
-counted-value κ count accounts μ Nothing = go (indexes_below count accounts && wrapped (μ (κ 0)))
+counted-value κ count accounts μ rust.None = go (indexes_below count accounts && wrapped (μ (κ 0)))
   where
-    go : (b : Bool) → none ≡ action_value κ (cond b Nothing Nothing)
+    go : (b : Bool) → none ≡ action_value κ (cond b rust.None rust.None)
     go true = refl
     go false = refl
-counted-value κ count accounts μ (Fund h s l) = go (indexes_below count accounts && wrapped (μ (κ h)))
+counted-value κ count accounts μ (rust.Some n) = go n
   where
-    go : (b : Bool) → cond b (action_value κ (Fund h s l)) none ≡ action_value κ (cond b (Fund h s l) Nothing)
-    go true = refl
-    go false = refl
-counted-value κ count accounts μ (Sync h) = go (indexes_below count accounts && wrapped (μ (κ h)))
-  where
-    go : (b : Bool) → cond b (action_value κ (Sync h)) none ≡ action_value κ (cond b (Sync h) Nothing)
-    go true = refl
-    go false = refl
-counted-value κ count accounts μ (Close h d a) = go (indexes_below count accounts && wrapped (μ (κ h)))
-  where
-    go : (b : Bool) → cond b (action_value κ (Close h d a)) none ≡ action_value κ (cond b (Close h d a) Nothing)
-    go true = refl
-    go false = refl
+    by : (x : NativeAction) (n : Native) → action_value κ (rust.Some n) ≡ some x → (b : Bool) → cond b (some x) none ≡ action_value κ (cond b (rust.Some n) rust.None)
+    by x n e true = sym e
+    by x n e false = refl
+
+    go : (n : Native) → counted count accounts μ (action_value κ (rust.Some n)) ≡ action_value κ (cond (indexes_below count accounts && wrapped (μ (κ (held_by (rust.Some n))))) (rust.Some n) rust.None)
+    go (Fund h s l) = by record { held = κ h; action = fund (κ s) l } (Fund h s l) refl (indexes_below count accounts && wrapped (μ (κ h)))
+    go (Sync h) = by record { held = κ h; action = sync } (Sync h) refl (indexes_below count accounts && wrapped (μ (κ h)))
+    go (Close h d a) = by record { held = κ h; action = close (κ d) (κ a) } (Close h d a) refl (indexes_below count accounts && wrapped (μ (κ h)))
 
 -- the Rust's answer is what counts of the form, for the mint of the account that it acts on
 pub native-is : (κ : ℕ → Key) (count : ℕ) (id : Id) (accounts d : List ℕ) (μ : Key → Option Key) → native_action κ count id accounts d μ ≡ action_value κ (action_in_numbers count id accounts d (μ (κ (acted_of id accounts d))))
@@ -105,41 +99,11 @@ wrapped-mint m = go (same (id_at 2) m) refl (is_mint m) refl
     go false e true f = rw f
     go false e false f = rw (f, e)
 
--- the test of all indexes, from place i on
-module _ (count : ℕ) (l : List ℕ) (i : ℕ) where
-  pub below_next : i < length l → get_or l i 0 < count → indexes_below count (drop i l) ≡ indexes_below count (drop (i + 1) l)
-  unfolding indexes_below
-  below_next h e = rw (drop-cons l i 0 h, add-one i, lt-ltb (get_or l i 0) count e)
-
-  pub below-stop : i < length l → count ≤ get_or l i 0 → indexes_below count (drop i l) ≡ false
-  unfolding indexes_below
-  below-stop h e = rw (drop-cons l i 0 h, le-ltb (get_or l i 0) count e)
-
-  pub below_end : i ≡ length l → indexes_below count (drop i l) ≡ true
-  unfolding indexes_below
-  below_end e = rw (e, drop-length l)
-
--- three tests leave nothing, and what passes them counts
-module _ (count : ℕ) (asked : Native) (accounts : List ℕ) (m : Option Key) where
-  pub no-form : is_nothing asked ≡ true → Nothing ≡ settled count asked accounts m
-  unfolding settled
-  no-form e = go asked e (indexes_below count accounts && wrapped m)
-    where
-      go : (f : Native) → is_nothing f ≡ true → (b : Bool) → Nothing ≡ cond b f Nothing
-      go Nothing q true = refl
-      go Nothing q false = refl
-      go (Fund h s l) q b = absurd (false≢true q)
-      go (Sync h) q b = absurd (false≢true q)
-      go (Close h s a) q b = absurd (false≢true q)
-
-  pub other-mint : wrapped m ≡ false → Nothing ≡ settled count asked accounts m
-  unfolding settled
-  other-mint e = rw (e, and-false)
-
-  pub no_key : indexes_below count accounts ≡ false → Nothing ≡ settled count asked accounts m
-  unfolding settled
-  no_key e = rw e
-
-  pub counts : wrapped m ≡ true → indexes_below count accounts ≡ true → asked ≡ settled count asked accounts m
-  unfolding settled
-  counts e f = rw (e, f)
+-- of what asks for nothing, nothing counts
+pub no-form : (count : ℕ) (accounts : List ℕ) (m : Option Key) → settled count rust.None accounts m ≡ rust.None
+unfolding settled
+no-form count accounts m = go (indexes_below count accounts && wrapped m)
+  where
+    go : (b : Bool) → cond {A = rust.Option Native} b rust.None rust.None ≡ rust.None
+    go true = refl
+    go false = refl

@@ -1,6 +1,7 @@
 -- A row of the table of native actions: invocation, kind, account, source or destination, authority, lamports. Absent fields are zero.
 -- Assumes nothing.
 use Rattle.std.specs.Prelude.{ℕ, List, [], ◌∷◌, ◌++◌}
+use Rattle.std.specs.Prelude as rust
 use Rattle.std.proofs.Math.Option.{Option, none, some}
 use Rattle.wire.specs.Le.{le_bytes}
 use Rattle.ids.specs.Keys.{Key, zero_key}
@@ -9,6 +10,11 @@ use Rattle.natives.specs.Natives.{Action, fund, sync, close, NativeAction}
 -- the bytes of a row
 abbrev pub action_width : ℕ
 action_width = 109
+
+-- the key of an index, if there is one
+abbrev pub key_if : (ℕ → Key) → rust.Option ℕ → Key
+key_if κ rust.None = zero_key
+key_if κ (rust.Some i) = κ i
 
 -- one row's bytes
 unfoldable pub fields_of : ℕ → ℕ → Key → Key → Key → ℕ → List ℕ

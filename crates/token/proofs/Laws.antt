@@ -14,7 +14,7 @@ use Rattle.ids.specs.Keys.{Key, is_zero, account}
 use Rattle.token.specs.Programs.{is_spl}
 use Rattle.token.specs.Tokens.{plain_amount, checked_amount, fee_transfer_amount, fee_transfer_fee}
 use Rattle.token.specs.Transfers.{fee_of, plainly, checked, transfer}
-use Rattle.token.specs.Moved.{fee_value, keyed, transfer_value, unnamed_fee, sent_plainly, sent_checked, moved_by, moved_of}
+use Rattle.token.specs.Moved.{fee_value, keyed, transfer_value, unnamed_fee, sent_to, sent_checked, moved_by, moved_of}
 use Rattle.token.specs.declared.Token.{Token}
 use Rattle.token.specs.declared.moved.Transfer.{Transfer}
 use Rattle.token.specs.declared.moved.Reason.TheVariants.{ZeroKey}
@@ -39,17 +39,23 @@ value-sent κ true t = refl
 value-sent κ false t = refl
 
 -- of an instruction whose accounts are there
-plainly-value : (κ : ℕ → Key) (accounts : List ℕ) (a : ℕ) (f : Option ℕ) → 2 ≤ length accounts → transfer_value κ (sent_plainly κ accounts a f) ≡ plainly κ accounts a (fee_value f)
-unfolding sent_plainly plainly
+plainly-value : (κ : ℕ → Key) (accounts : List ℕ) (a : ℕ) (f : Option ℕ) → 2 ≤ length accounts → transfer_value κ (sent_to κ accounts 1 a f) ≡ plainly κ accounts a (fee_value f)
+unfolding sent_to plainly
 plainly-value κ accounts a f h =
     rw (there κ accounts 0 (omega arith), there κ accounts 1 (omega arith))
     (value-sent κ (is_zero (κ (get_or accounts 0 0)) || is_zero (κ (get_or accounts 1 0))) record { source = get_or accounts 0 0; destination = get_or accounts 1 0; amount = a; fee = f })
 
 checked-value : (κ : ℕ → Key) (accounts : List ℕ) (a : ℕ) (f : Option ℕ) → 3 ≤ length accounts → transfer_value κ (sent_checked κ accounts a f) ≡ checked κ accounts a (fee_value f)
-unfolding sent_checked checked
+unfolding sent_to sent_checked checked
 checked-value κ accounts a f h =
     rw (there κ accounts 0 (omega arith), there κ accounts 1 (omega arith), there κ accounts 2 (omega arith))
-    (value-sent κ (is_zero (κ (get_or accounts 0 0)) || is_zero (κ (get_or accounts 2 0)) || is_zero (κ (get_or accounts 1 0))) record { source = get_or accounts 0 0; destination = get_or accounts 2 0; amount = a; fee = f })
+    (go (is_zero (κ (get_or accounts 0 0)) || is_zero (κ (get_or accounts 2 0))) (is_zero (κ (get_or accounts 1 0))) record { source = get_or accounts 0 0; destination = get_or accounts 2 0; amount = a; fee = f })
+  where
+    go : (z m : Bool) (t : Transfer) → transfer_value κ (cond m (Err ZeroKey) (cond z (Err ZeroKey) (Ok t))) ≡ cond (z || m) none (some (keyed κ t))
+    go true true t = refl
+    go true false t = refl
+    go false true t = refl
+    go false false t = refl
 
 module _ (κ : ℕ → Key) (id : Id) (accounts d : List ℕ) where
   pub moved_value : transfer_value κ (moved_of κ id accounts d) ≡ transfer κ id accounts d

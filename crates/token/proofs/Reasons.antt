@@ -20,7 +20,7 @@ use Rattle.token.specs.Tokens.{initialises, plain_transfer, checked_transfer, fe
 use Rattle.token.specs.Transfers.{transfer}
 use Rattle.token.specs.Published.{Layout, source, destination, mint, authority, place, standing, role, total, size, starts, transfer_layout, transfer_checked, transfer_checked_with_fee}
 use Rattle.token.specs.Reasons.{transfer_layouts, begins_as, lacks_key, lacking, reason_among, reason, Tells, says_transfer, says_why}
-use Rattle.token.specs.Moved.{transfer_value, reason_number, reason_of, unnamed_fee, accounts_named, why_none, sent_plainly, sent_checked, moved_by, moved_of}
+use Rattle.token.specs.Moved.{transfer_value, reason_number, reason_of, unnamed_fee, accounts_named, why_none, sent_to, sent_checked, moved_by, moved_of}
 use Rattle.token.specs.declared.Token.TheVariants.{Initialise, Plain, Checked, WithFee}
 use Rattle.token.specs.declared.moved.Transfer.{Transfer}
 use Rattle.token.specs.declared.moved.Reason.{Reason}
@@ -133,7 +133,7 @@ module _ (κ : ℕ → Key) (id : Id) (a d : List ℕ) where
   moved-1 t = rw (read_none id (length a) d t, t)
 
   moved-3 : is_token id ≡ true → get_or d 0 0 ≡ 3 → reason_of (moved_of κ id a d) ≡ lacking transfer_layout κ a d
-  unfolding transfer_layout size total accounts_named sent_plainly
+  unfolding transfer_layout size total accounts_named sent_to
   moved-3 t e = rw (read-3 id (length a) d t e) (go (leb 9 (length d) && leb 3 (length a)) refl)
     where
       go : (b : Bool) → (leb 9 (length d) && leb 3 (length a)) ≡ b → reason_of (moved_by κ id a d (cond b (Some (Plain (plain_amount d))) None)) ≡ lacking transfer_layout κ a d
@@ -146,11 +146,19 @@ module _ (κ : ℕ → Key) (id : Id) (a d : List ℕ) where
   -- the two that name their mint
   sent-lacking : (l : Layout) → l.accounts ≡ source ∷ mint ∷ destination ∷ authority ∷ [] → (x : ℕ) (f : Option ℕ) → (leb (size l) (length d) && leb (length l.accounts) (length a)) ≡ true
       → 4 ≤ length a → reason_of (sent_checked κ a x f) ≡ lacking l κ a d
-  unfolding sent_checked
+  unfolding sent_to sent_checked
   sent-lacking l q x f h k =
-      read-lacking l (is_zero (κ (get_or a 0 0)) || is_zero (κ (get_or a 2 0)) || is_zero (κ (get_or a 1 0)))
-      record { source = get_or a 0 0; destination = get_or a 2 0; amount = x; fee = f }
-      (lacks-4 l q k) h
+      go (is_zero (κ (get_or a 0 0)) || is_zero (κ (get_or a 2 0))) (is_zero (κ (get_or a 1 0)))
+      ∙ read-lacking l (is_zero (κ (get_or a 0 0)) || is_zero (κ (get_or a 2 0)) || is_zero (κ (get_or a 1 0))) t (lacks-4 l q k) h
+    where
+      t : Transfer
+      t = record { source = get_or a 0 0; destination = get_or a 2 0; amount = x; fee = f }
+
+      go : (z m : Bool) → reason_of (cond m (Err ZeroKey) (cond z (Err ZeroKey) (Ok t))) ≡ reason_of (cond (z || m) (Err ZeroKey) (Ok t))
+      go true true = refl
+      go true false = refl
+      go false true = refl
+      go false false = refl
 
   moved-12 : is_token id ≡ true → get_or d 0 0 ≡ 12 → reason_of (moved_of κ id a d) ≡ lacking transfer_checked κ a d
   unfolding transfer_checked size total accounts_named

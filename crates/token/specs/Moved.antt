@@ -62,23 +62,21 @@ lacking_by n (Some named) = cond (ltb n named) TooFewAccounts DataTooShort
 unfoldable pub why_none : Id → ℕ → List ℕ → Reason
 why_none id n d = cond (is_token id) (lacking_by n (accounts_named id d)) NotToken
 
--- source and destination side by side; a zero one gives no transfer
-unfoldable pub sent_plainly : (ℕ → Key) → List ℕ → ℕ → Option ℕ → Result Transfer Reason
-sent_plainly κ accounts a fee =
-    cond (is_zero (κ (get_or accounts 0 0)) || is_zero (κ (get_or accounts 1 0))) (Err ZeroKey)
-    (Ok record { source = get_or accounts 0 0; destination = get_or accounts 1 0; amount = a; fee = fee })
+-- from account 0 to account i; a zero one gives no transfer
+unfoldable pub sent_to : (ℕ → Key) → List ℕ → ℕ → ℕ → Option ℕ → Result Transfer Reason
+sent_to κ accounts i a fee =
+    cond (is_zero (κ (get_or accounts 0 0)) || is_zero (κ (get_or accounts i 0))) (Err ZeroKey)
+    (Ok record { source = get_or accounts 0 0; destination = get_or accounts i 0; amount = a; fee = fee })
 
--- the mint between them; a zero one of the three gives no transfer
+-- to account 2, the mint between them; a zero mint gives no transfer either
 unfoldable pub sent_checked : (ℕ → Key) → List ℕ → ℕ → Option ℕ → Result Transfer Reason
-sent_checked κ accounts a fee =
-    cond (is_zero (κ (get_or accounts 0 0)) || is_zero (κ (get_or accounts 2 0)) || is_zero (κ (get_or accounts 1 0))) (Err ZeroKey)
-    (Ok record { source = get_or accounts 0 0; destination = get_or accounts 2 0; amount = a; fee = fee })
+sent_checked κ accounts a fee = cond (is_zero (κ (get_or accounts 1 0))) (Err ZeroKey) (sent_to κ accounts 2 a fee)
 
 -- by the instruction read
 abbrev pub moved_by : (ℕ → Key) → Id → List ℕ → List ℕ → Option Token → Result Transfer Reason
 moved_by κ id accounts d None = Err (why_none id (length accounts) d)
 moved_by κ id accounts d (Some Initialise) = Err UnsupportedTag
-moved_by κ id accounts d (Some (Plain a)) = sent_plainly κ accounts a (unnamed_fee id)
+moved_by κ id accounts d (Some (Plain a)) = sent_to κ accounts 1 a (unnamed_fee id)
 moved_by κ id accounts d (Some (Checked a)) = sent_checked κ accounts a (unnamed_fee id)
 moved_by κ id accounts d (Some (WithFee a f)) = sent_checked κ accounts a (Some f)
 

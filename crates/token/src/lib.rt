@@ -10,7 +10,7 @@ ghost use Rattle.token.specs.Programs.{is_token, is_token2022};
 ghost use Rattle.token.specs.Tokens.{token_of};
 ghost use Rattle.token.specs.Transfers.{transfer as transfer_of};
 ghost use Rattle.token.specs.Reasons.{reason as reason_for};
-ghost use Rattle.token.specs.Moved.{transfer_value, unnamed_fee, accounts_named, why_none, sent_plainly, sent_checked, moved_of, source_by, reason_of};
+ghost use Rattle.token.specs.Moved.{transfer_value, unnamed_fee, accounts_named, why_none, sent_to, sent_checked, moved_of, source_by, reason_of};
 
 use ids::Id;
 
@@ -115,18 +115,19 @@ fn why_none(id: Id, accounts: usize, data: &[u8]) -> Reason
     }
 }
 
-// Source and destination side by side.
-#[tactic(auto, unfolding(crate::specs::Moved::sent_plainly))]
-fn sent_plainly(
+// From account 0 to the account at place `to`.
+#[tactic(auto, unfolding(crate::specs::Moved::sent_to))]
+fn sent_to(
     keys: &[u8],
     accounts: &[u8],
+    to: usize,
     amount: u64,
     fee: Option<u64>,
 ) -> Result<Transfer, Reason>
-    ensures { result ≡ sent_plainly (key_of keys.now) accounts.now amount fee }
+    ensures { result ≡ sent_to (key_of keys.now) accounts.now to amount fee }
 {
     let source = present(keys, accounts, 0)?;
-    let destination = present(keys, accounts, 1)?;
+    let destination = present(keys, accounts, to)?;
     Ok(Transfer {
         source,
         destination,
@@ -135,8 +136,8 @@ fn sent_plainly(
     })
 }
 
-// The mint between them.
-#[tactic(auto, unfolding(crate::specs::Moved::sent_checked))]
+// To account 2, and the mint between them.
+#[tactic(auto, unfolding(crate::specs::Moved::sent_to, crate::specs::Moved::sent_checked))]
 fn sent_checked(
     keys: &[u8],
     accounts: &[u8],
@@ -145,15 +146,8 @@ fn sent_checked(
 ) -> Result<Transfer, Reason>
     ensures { result ≡ sent_checked (key_of keys.now) accounts.now amount fee }
 {
-    let source = present(keys, accounts, 0)?;
-    let destination = present(keys, accounts, 2)?;
     present(keys, accounts, 1)?;
-    Ok(Transfer {
-        source,
-        destination,
-        amount,
-        fee,
-    })
+    sent_to(keys, accounts, 2, amount, fee)
 }
 
 // The transfer that an instruction gives, or why it gives none.
@@ -165,7 +159,7 @@ pub fn transfer(id: Id, keys: &[u8], accounts: &[u8], data: &[u8]) -> Result<Tra
     match parse(id, accounts.len(), data) {
         None => Err(why_none(id, accounts.len(), data)),
         Some(Token::Initialise) => Err(Reason::UnsupportedTag),
-        Some(Token::Plain(amount)) => sent_plainly(keys, accounts, amount, unnamed_fee(id)),
+        Some(Token::Plain(amount)) => sent_to(keys, accounts, 1, amount, unnamed_fee(id)),
         Some(Token::Checked(amount)) => sent_checked(keys, accounts, amount, unnamed_fee(id)),
         Some(Token::WithFee(amount, fee)) => sent_checked(keys, accounts, amount, Some(fee)),
     }

@@ -1,40 +1,47 @@
--- The case names the fields, and a key that is looked up has 32 bytes.
+-- Each call stores one field into the row, which the fields fill (`fields`), and the last one puts the row; the case says which fields.
 -- Assumes nothing.
-use mathlib.Core.Path.{refl, ap, ◌∙◌}
+use mathlib.Core.Path.{◌≡◌, refl, ap, ◌∙◌}
+use mathlib.Core.List.{List}
+use Prim.Native.Nat.{ℕ}
 use lib.ListN.{length}
-use Rattle.ids.specs.Keys.{zero_key}
+use lib.Seq.{sets}
+use Rattle.std.specs.Prelude.{Option, Some, None}
+use Rattle.wire.specs.Zeros.{zeros}
+use Rattle.ids.specs.Keys.{key_of, zero_key}
 use Rattle.ids.proofs.Keys.{key-length}
+use Rattle.natives.specs.Rows.{action_width, key_if, fields_of}
+use Rattle.natives.proofs.Fields.{fields}
 use Rattle.natives.proofs.put_row.Goals as goal
+use Rattle.natives.proofs.put_row.Goals.{in-Fund, in-Sync, in-Close}
 
-pub put_fields-requires : goal.put_fields-requires
+-- a key that may be missing has 32 bytes
+key_if-length : (ks : List ℕ) (i : Option ℕ) → length (key_if (key_of ks) i) ≡ 32
 unfolding zero_key
-put_fields-requires c =
-    let ks = c.args.keys.now in
-    (ap length c.key.ensures ∙ key-length ks c.in-Fund.h, ap length c.key-in-Fund.ensures ∙ key-length ks c.in-Fund.s, refl)
+key_if-length ks None = refl
+key_if-length ks (Some i) = key-length ks i
 
-pub put_fields-requires-in-Sync : goal.put_fields-requires-in-Sync
-unfolding zero_key
-put_fields-requires-in-Sync c =
-    let ks = c.args.keys.now in
-    (ap length c.key-in-Sync.ensures ∙ key-length ks c.in-Sync.h, refl, refl)
-
-pub put_fields-requires-in-Close : goal.put_fields-requires-in-Close
-unfolding zero_key
-put_fields-requires-in-Close c =
-    let ks = c.args.keys.now in
-    (ap length c.key-in-Close.ensures ∙ key-length ks c.in-Close.h, ap length c.key-in-Close-2.ensures ∙ key-length ks c.in-Close.d, ap length c.key-in-Close-3.ensures ∙ key-length ks c.in-Close.a)
-
-pub returns-in-Fund : goal.returns-in-Fund
-unfolding zero_key
-returns-in-Fund c =
-    rw c.in-Fund.is (c.put_fields.ensures ∙ rw (c.key.ensures, c.key-in-Fund.ensures))
-
-pub returns-in-Sync : goal.returns-in-Sync
-unfolding zero_key
-returns-in-Sync c =
-    rw c.in-Sync.is (c.put_fields-in-Sync.ensures ∙ rw c.key-in-Sync.ensures)
-
-pub returns-in-Close : goal.returns-in-Close
-unfolding zero_key
-returns-in-Close c =
-    rw c.in-Close.is (c.put_fields-in-Close.ensures ∙ rw (c.key-in-Close.ensures, c.key-in-Close-2.ensures, c.key-in-Close-3.ensures))
+pub returns : goal.returns
+returns c =
+    let a = c.args in
+    let k = key_of a.keys.now in
+    let t = c.match-native-2.told in
+    let e : c.put.new.d ≡ sets a.out.now a.at (fields_of a.invocation t.kind (k t.account) (key_if k t.other) (key_if k t.authority) t.lamports) =
+    rw (
+      c.put.ensures,
+      c.put_u64.ensures,
+      c.put_key-3.ensures,
+      c.put_key-2.ensures,
+      c.put_key.ensures,
+      c.from.ensures,
+      c.put_byte.ensures,
+      c.put_u32.ensures,
+    )
+    (ap
+    (sets a.out.now a.at)
+    (fields (zeros action_width) a.invocation t.kind (k t.account) (key_if k t.other) (key_if k t.authority) t.lamports
+    refl (key-length a.keys.now t.account) (key_if-length a.keys.now t.other) (key_if-length a.keys.now t.authority))) in
+    e ∙ rw c.in-Some.is (elim c.match-native-2.branch [
+      | in-Fund w ↦ rw (w.told-is, w.in-Fund.is)
+      | in-Sync w ↦ rw (w.told-is, w.in-Sync.is)
+      | in-Close w ↦ rw (w.told-is, w.in-Close.is)
+    ])

@@ -1,31 +1,43 @@
--- Three tests leave nothing, and what passes them counts (`no-form`, `other-mint`, `no_key`, `counts`).
+-- A mint that is not wrapped SOL, and an index past the keys, leave nothing.
 -- Assumes nothing.
+use mathlib.Core.Path.{◌≡◌, refl, sym, ◌∙◌}
+use mathlib.Core.Bool.{Bool, true, false, cond, ◌&&◌, and-false}
+use mathlib.Core.List.{List, [], ◌∷◌}
 use Prim.Native.Nat.{ℕ}
-use mathlib.Core.Path.{sym, ap, ◌∙◌}
+use lib.Dec.{ltb}
+use Rattle.std.proofs.Common.{rules, tests}
+use Rattle.std.specs.Prelude.{Some, None}
+use Rattle.std.specs.Bool.{then_some}
+use Rattle.std.specs.List.{list_all}
+use Rattle.std.proofs.lemmas.Iterator.{YieldsList-from_slice}
+use Rattle.std.proofs.lemmas.Iterator.Search.{all_from_yields_List}
 use Rattle.ids.specs.Keys.{key_count}
-use Rattle.ids.specs.Mints.{mint_of}
 use Rattle.natives.specs.Natives.{indexes_below}
-use Rattle.natives.proofs.Laws.{no-form, wrapped-mint, other-mint, no_key, counts}
+use Rattle.natives.specs.declared.Native.{Native}
+use Rattle.natives.specs.Numbers.{settled}
+use Rattle.natives.proofs.Laws.{wrapped-mint}
 use Rattle.natives.proofs.settle.Goals as goal
 
-pub returns-then-nothing : goal.returns-then-nothing
-returns-then-nothing c =
-    let a = c.args in
-    no-form (key_count a.keys.now) a.asked a.accounts.now (mint_of a.mint.now) (sym c.nothing.ensures ∙ c.if-nothing.true)
-
 pub returns-then-not-is_wrapped_sol : goal.returns-then-not-is_wrapped_sol
+unfolding settled
 returns-then-not-is_wrapped_sol c =
-    let a = c.args in
-    other-mint (key_count a.keys.now) a.asked a.accounts.now (mint_of a.mint.now) (wrapped-mint a.mint.now ∙ sym c.is_wrapped_sol.ensures ∙ c.if-not-is_wrapped_sol.true)
+    rw (wrapped-mint c.args.mint.now, sym c.is_wrapped_sol.ensures ∙ c.if-not-is_wrapped_sol.true) (simp and-false)
 
-pub returns-then-not-all_below : goal.returns-then-not-all_below
-returns-then-not-all_below c =
-    let a = c.args in
-    let all = c.all_below.ensures ∙ ap (λ (k : ℕ). indexes_below k a.accounts.now) c.key_count.ensures in
-    no_key (key_count a.keys.now) a.asked a.accounts.now (mint_of a.mint.now) (sym all ∙ c.if-not-all_below.true)
+-- the definition's test of the indexes is that of each
+each-below : (count : ℕ) (xs : List ℕ) → indexes_below count xs ≡ list_all (λ i. ltb i count) xs
+unfolding indexes_below
+each-below count [] = refl
+each-below count (x ∷ xs) = rw (each-below count xs)
+
+kept : (b : Bool) (n : Native) → then_some b n ≡ cond (b && true) (Some n) None
+kept true n = refl
+kept false n = refl
 
 pub returns : goal.returns
+unfolding settled
 returns c =
-    let a = c.args in
-    let all = c.all_below.ensures ∙ ap (λ (k : ℕ). indexes_below k a.accounts.now) c.key_count.ensures in
-    counts (key_count a.keys.now) a.asked a.accounts.now (mint_of a.mint.now) (wrapped-mint a.mint.now ∙ sym c.is_wrapped_sol.ensures ∙ c.if-not-is_wrapped_sol.false) (sym all ∙ c.if-not-all_below.false)
+    let xs = c.args.accounts.now in
+    let count = c.key_count-count.result in
+    let all : c.all.result ≡ list_all (λ i. ltb i count) xs = all_from_yields_List (λ i. ltb i count) _ _ _ c.all.ensures.ran (YieldsList-from_slice xs cc) (λ x b q k. search (rules, tests)) in
+    rw (wrapped-mint c.args.mint.now, sym c.is_wrapped_sol.ensures ∙ c.if-not-is_wrapped_sol.false, each-below (key_count c.args.keys.now) xs, c.in_ok-native.was, ← c.key_count-count.ensures, ← all, c.then_some.ensures)
+    (kept c.all.result c.in_ok-native.native)

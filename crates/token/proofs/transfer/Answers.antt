@@ -20,7 +20,7 @@ returns-in-Some-Initialise c =
 pub returns-in-Some-Plain : goal.returns-in-Some-Plain
 returns-in-Some-Plain c =
     let a = c.args in
-    let t = tells (key_of a.keys.now) a.id a.accounts.now a.«data».now (rw (sym c.parse.ensures ∙ c.in-Some-Plain.is, c.in-Some-Plain.field-0-is, c.sent_plainly.ensures, c.unnamed_fee.ensures)) in
+    let t = tells (key_of a.keys.now) a.id a.accounts.now a.«data».now (rw (sym c.parse.ensures ∙ c.in-Some-Plain.is, c.in-Some-Plain.field-0-is, c.sent_to.ensures, c.unnamed_fee.ensures)) in
     record { value = t.0; transfer = t.1.0; reason = t.1.1 }
 
 pub returns-in-Some-Checked : goal.returns-in-Some-Checked
