@@ -21,7 +21,8 @@ use Rattle.token.specs.Tokens.{token_of}
 use Rattle.token.specs.declared.Token.{Token}
 use Rattle.token.specs.declared.Token.TheVariants.{Other, Initialise, Plain, Checked, WithFee}
 use Rattle.mints.specs.Note.{new_at, Noted, note_at}
-use Rattle.mints.specs.Gather.{row_of_account, note_account, observed, is_plain, token_at, Gathered, gather_at, gather_to}
+use Rattle.mints.specs.declared.pass.Transfer.{Transfer}
+use Rattle.mints.specs.Gather.{row_of_account, note_account, observed, is_plain, transfer_of, token_at, Gathered, gather_at, gather_to}
 use Rattle.mints.specs.Programs.{programs_of}
 use Rattle.mints.proofs.Programs.{programs-length, programs-at}
 use Rattle.token.proofs.Reading.{read_none}
@@ -63,17 +64,16 @@ pub programs-all : (ks p offsets l : List ℕ) {u : List ℕ} {i : ℕ} → i �
 programs-all ks p offsets l {u} {i} n e = e ∙ ap (sets l 0) (take_all i (programs_of ks p offsets) (omega (arith, programs-length ks p offsets)))
 
 -- an instruction of a token program
-pub gather-next : (ks p offsets row : List ℕ) (s : Gathered) (i : ℕ) {token : Token} {a t f g t' f' g' : List ℕ} {room count room' count' : ℕ}
-    → gather_to ks p offsets row s i ≡ record { noted = record { table = t; room = room }; from = f; to = g; count = count }
+pub gather-next : (ks p offsets row : List ℕ) (s : Gathered) (i : ℕ) {token : Token} {a t t' : List ℕ} {ts ts' : List Transfer} {room count room' count' : ℕ}
+    → gather_to ks p offsets row s i ≡ record { noted = record { table = t; room = room }; transfers = ts; count = count }
     → token ≡ token_at ks p (get_or offsets i 0)
     → a ≡ (instruction_at p (get_or offsets i 0)).accounts
     → observed (key_of ks) row token a (record { table = t; room = room }) ≡ record { table = t'; room = room' }
     → count' ≡ cond (is_plain token) (suc count) count
-    → f' ≡ cond (is_plain token) (set f count (row_of_account row a 0)) f
-    → g' ≡ cond (is_plain token) (set g count (row_of_account row a 1)) g
-    → gather_to ks p offsets row s (i + 1) ≡ record { noted = record { table = t'; room = room' }; from = f'; to = g'; count = count' }
+    → ts' ≡ cond (is_plain token) (set ts count (transfer_of row a)) ts
+    → gather_to ks p offsets row s (i + 1) ≡ record { noted = record { table = t'; room = room' }; transfers = ts'; count = count' }
 unfolding gather_to gather_at
-gather-next ks p offsets row s i e is has seen c x y = rw (add-one i, e, ← is, ← has, seen, c, x, y)
+gather-next ks p offsets row s i e is has seen c x = rw (add-one i, e, ← is, ← has, seen, c, x)
 
 -- the bounds that a turn keeps
 pub room_next : (ks row : List ℕ) (token : Token) (a : List ℕ) (x : Noted) (i : ℕ) {t : List ℕ} {room : ℕ} → observed (key_of ks) row token a x ≡ record { table = t; room = room } → x.room ≤ i * 2 → room ≤ (i + 1) * 2
@@ -101,8 +101,8 @@ module _ (κ : ℕ → Key) (row : List ℕ) (k : ℕ) where
   observed-on-top (WithFee n f) a x = rw (account-on-top a x 0) (account-on-top a (note_account κ row a x 0) 2)
 
 pub gather-on-top : (ks p offsets row : List ℕ) (k : ℕ) (s : Gathered) (i : ℕ)
-    → gather_to ks p offsets row (record { noted = on-top k s.noted; from = s.from; to = s.to; count = s.count }) i
-    ≡ record { noted = on-top k (gather_to ks p offsets row s i).noted; from = (gather_to ks p offsets row s i).from; to = (gather_to ks p offsets row s i).to; count = (gather_to ks p offsets row s i).count }
+    → gather_to ks p offsets row (record { noted = on-top k s.noted; transfers = s.transfers; count = s.count }) i
+    ≡ record { noted = on-top k (gather_to ks p offsets row s i).noted; transfers = (gather_to ks p offsets row s i).transfers; count = (gather_to ks p offsets row s i).count }
 unfolding gather_to gather_at
 gather-on-top ks p offsets row k s zero = refl
 gather-on-top ks p offsets row k s (suc i) =
