@@ -15,7 +15,7 @@ const TABLES: [(&str, Reader); 2] = [("src/lib.rt", constant), ("specs/Ids.antt"
 
 /// The bytes of the constant in the code: `\x` and two digits each, over several lines.
 fn constant(text: &str) -> Option<Vec<u8>> {
-    let literal = between(text, "const IDS: [u8; 448] = *b\"", "\";")?;
+    let literal = between(text, "static IDS: [u8; 448] = *b\"", "\";")?;
     let bytes: String = literal.split("\\\n").map(str::trim_start).collect();
     let byte = |digits: &str| u8::from_str_radix(digits, 16).ok().filter(|_| digits.len() == 2);
     bytes.strip_prefix("\\x")?.split("\\x").map(byte).collect()

@@ -23,7 +23,7 @@ pub number_of-of : (n : ℕ) → n < 17 → number_of (of_number n) ≡ n
 number_of-of n h = eqb-true _ n (below_at (λ k. eqb (number_of (of_number k)) k) 17 all-numbers n h)
 
 -- the number of a key's case is what the search finds
-which-number : (key : Key) → number_of (which key) ≡ row_from key 14 0
+pub which-number : (key : Key) → number_of (which key) ≡ row_from key 14 0
 unfolding which
 which-number key = number_of-of (row_from key 14 0) (small (row-view key 14 0))
   where

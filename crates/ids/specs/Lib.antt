@@ -2,4 +2,4 @@ pub mod Keys
 pub mod Mints
 pub mod Ids
 pub mod Which
-pub mod ProgramNumbers
+pub mod KeyPrograms

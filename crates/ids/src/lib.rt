@@ -7,14 +7,14 @@
 ghost use Rattle.std.specs.Prelude.{◌≡◌, ◌<◌};
 ghost use Rattle.std.proofs.lemmas.List.Edits.{sets};
 ghost use Rattle.wire.specs.Same.{same};
-ghost use Rattle.ids.specs.Ids.{ids, id_at, is_wrapped_sol};
+ghost use Rattle.ids.specs.Ids.{id_at, is_wrapped_sol};
 ghost use Rattle.ids.specs.Keys.{key_at, key_of, key_count};
 ghost use Rattle.ids.specs.Mints.{is_mint, mint_of, mint_field};
-ghost use Rattle.ids.specs.Which.{of_number, row_by_fifth, row_from};
+ghost use Rattle.ids.specs.Which.{of_number, row_by_fifth, which};
 
 pub mod programs;
 
-const IDS: [u8; 448] = *b"\
+static IDS: [u8; 448] = *b"\
     \x06\xdd\xf6\xe1\xd7\x65\xa1\x93\xd9\xcb\xe1\x46\xce\xeb\x79\xac\x1c\xb4\x85\xed\x5f\x5b\x37\x91\x3a\x8c\xf5\x85\x7e\xff\x00\xa9\
     \x06\xdd\xf6\xe1\xee\x75\x8f\xde\x18\x42\x5d\xbc\xe4\x6c\xcd\xda\xb6\x1a\xfc\x4d\x83\xb9\x0d\x27\xfe\xbd\xf9\x28\xd8\xa1\x8b\xfc\
     \x06\x9b\x88\x57\xfe\xab\x81\x84\xfb\x68\x7f\x63\x46\x18\xc0\x35\xda\xc4\x39\xdc\x1a\xeb\x3b\x55\x98\xa0\xf0\x00\x00\x00\x00\x01\
@@ -63,7 +63,7 @@ pub fn key_count(keys: &[u8]) -> usize
 pub fn key<'a>(keys: &'a [u8], blank: &'a [u8], index: usize) -> &'a [u8]
     ensures { result.now ≡ key_at keys.now blank.now index }
 {
-    if index < keys.len() / 33 {
+    if index < key_count(keys) {
         let at = index * 33 + 1;
         &keys[at..at + 32]
     } else {
@@ -75,16 +75,15 @@ pub fn key<'a>(keys: &'a [u8], blank: &'a [u8], index: usize) -> &'a [u8]
 pub fn put_key(out: &mut [u8], at: usize, keys: &[u8], index: usize)
     ensures { out.new ≡ sets out.old at (key_of keys.now index) }
 {
-    let blank = [0u8; 32];
-    wire::put(out, at, key(keys, &blank, index));
+    wire::put(out, at, key(keys, &[0u8; 32], index));
 }
 
 // Whether 32 bytes that are not all zero are handed over.
+#[tactic(auto, unfolding(crate::specs::Mints::is_mint, crate::specs::Keys::zero_key))]
 pub fn is_mint(mint: &[u8]) -> bool
     ensures { result ≡ is_mint mint.now }
 {
-    let blank = [0u8; 32];
-    mint.len() == 32 && !wire::equal(mint, &blank)
+    mint.len() == 32 && !wire::equal(mint, &[0u8; 32])
 }
 
 // Writes a flag and a mint.
@@ -98,95 +97,61 @@ pub fn put_mint(out: &mut [u8], at: usize, mint: &[u8])
         wire::put_byte(out, at, 1);
         wire::put(out, at + 1, mint);
     } else {
-        let none = [0u8; 33];
-        wire::put(out, at, &none);
+        wire::put(out, at, &[0u8; 33]);
     }
 }
 
-// Whether `key` is the id of row k. The table is lent, since a constant array is built anew wherever it is named.
-fn is_row(table: &[u8], k: usize, key: &[u8]) -> bool
-    requires { (table.now ≡ ids) × (k < 14) }
+// Whether `key` is the id of row k.
+fn is_row(k: usize, key: &[u8]) -> bool
+    requires { k < 14 }
     ensures { result ≡ same (id_at k) key.now }
 {
     let at = k * 32;
-    wire::equal(&table[at..at + 32], key)
+    wire::equal(&IDS[at..at + 32], key)
 }
 
 // Whether a mint is wrapped SOL.
+#[tactic(auto, unfolding(crate::specs::Ids::is_wrapped_sol))]
 pub fn is_wrapped_sol(mint: &[u8]) -> bool
     ensures { result ≡ is_wrapped_sol mint.now }
 {
-    let table = IDS;
-    is_row(&table, 2, mint)
+    is_row(2, mint)
 }
 
-// The case of a number.
-pub fn of_number(n: u8) -> Id
-    ensures { result ≡ of_number n }
-{
-    match n {
-        0 => Id::SplToken,
-        1 => Id::Token2022,
-        2 => Id::WrappedSol,
-        3 => Id::ComputeBudget,
-        4 => Id::AssociatedToken,
-        5 => Id::Memo,
-        6 => Id::PumpFun,
-        7 => Id::LaunchLab,
-        8 => Id::PumpSwap,
-        9 => Id::Clmm,
-        10 => Id::Cpmm,
-        11 => Id::AmmV4,
-        12 => Id::Orca,
-        13 => Id::Dlmm,
-        14 => Id::System,
-        15 => Id::Other,
-        _ => Id::Unresolved,
-    }
-}
-
-// The one row that a key can be, by its fifth byte; 14 where that is zero, since no id has a zero there, and 15 where it is in no row.
-fn candidate(fifth: u8) -> u8
-    ensures { result ≡ row_by_fifth fifth 14 0 }
+// The one program that a key can be, by its fifth byte: System where that is zero, since no id has a zero there, and another where it is in no row.
+#[tactic(auto, unfolding(crate::specs::Which::row_by_fifth, crate::specs::Which::of_number, crate::specs::Ids::ids))]
+fn candidate(fifth: u8) -> Id
+    ensures { result ≡ of_number (row_by_fifth fifth 14 0) }
 {
     match fifth {
-        0xd7 => 0,
-        0xee => 1,
-        0xfe => 2,
-        0xe5 => 3,
-        0x4e => 4,
-        0x99 => 5,
-        0x93 => 6,
-        0x4d => 7,
-        0x82 => 8,
-        0x04 => 9,
-        0x4f => 10,
-        0x36 => 11,
-        0x8e => 12,
-        0xbc => 13,
-        0x00 => 14,
-        _ => 15,
+        0xd7 => Id::SplToken,
+        0xee => Id::Token2022,
+        0xfe => Id::WrappedSol,
+        0xe5 => Id::ComputeBudget,
+        0x4e => Id::AssociatedToken,
+        0x99 => Id::Memo,
+        0x93 => Id::PumpFun,
+        0x4d => Id::LaunchLab,
+        0x82 => Id::PumpSwap,
+        0x04 => Id::Clmm,
+        0x4f => Id::Cpmm,
+        0x36 => Id::AmmV4,
+        0x8e => Id::Orca,
+        0xbc => Id::Dlmm,
+        0x00 => Id::System,
+        _ => Id::Other,
     }
 }
 
-// The row of a key in the table, or 14 for the zero key and 15 for any other.
-fn row_in(table: &[u8], key: &[u8]) -> u8
-    requires { table.now ≡ ids }
-    ensures { result ≡ row_from key.now 14 0 }
+// Which program a key is: the one that it can be, or another.
+fn which(key: &[u8]) -> Id
+    ensures { result ≡ which key.now }
 {
-    let row = candidate(wire::byte(key, 4));
-    if row == 15 {
-        return 15;
-    }
-    if row == 14 {
-        let blank = [0u8; 32];
-        if wire::equal(key, &blank) {
-            return 14;
-        }
-        return 15;
-    }
-    if is_row(table, row as usize, key) {
-        return row;
-    }
-    15
+    let id = candidate(wire::byte(key, 4));
+    let same = match id {
+        Id::System => wire::equal(key, &[0u8; 32]),
+        Id::Other | Id::Unresolved => false,
+        _ => is_row(id as usize, key),
+    };
+    if same { id } else { Id::Other }
 }
