@@ -7,6 +7,10 @@ use Prim.Native.Nat.{ℕ, suc}
 use native.Mathlib.Omega.{arith}
 use lib.ListN.{length, set, length-append}
 use lib.Seq.{sets}
+use mir.Val.{bool_byte}
+use Rattle.std.specs.Prelude.{Result, Ok, Err}
+use Rattle.std.specs.Prelude as rust
+use Rattle.wire.specs.Le.{le_bytes}
 use Rattle.wire.proofs.Laws.{le_bytes-length}
 use Rattle.wire.proofs.Sets.{sets-next, sets-whole}
 use Rattle.ids.specs.declared.Id.{Id}
@@ -14,9 +18,9 @@ use Rattle.ids.specs.Keys.{Key}
 use Rattle.ids.specs.Mints.{mint_field}
 use Rattle.token.specs.Transfers.{Transfer, transfer}
 use Rattle.token.specs.Rows.{transfer_width, fee_field, transfer_row}
-use Rattle.token.specs.Moved.{transfer_value, moved_of}
-use Rattle.token.specs.declared.Moved.{Moved}
-use Rattle.token.specs.declared.Moved.TheVariants.{NotToken, UnsupportedTag, TooFewAccounts, DataTooShort, ZeroKey, FeeUnknown, FeeKnown}
+use Rattle.token.specs.Moved.{fee_value, transfer_value, moved_of}
+use Rattle.token.specs.declared.moved.Transfer as numbered
+use Rattle.token.specs.declared.moved.Reason.{Reason}
 use Rattle.token.proofs.Laws.{moved_value}
 
 -- the fields of a row of the table of transfers fill it
@@ -36,6 +40,12 @@ fee-length : (f : Option ℕ) → length (fee_field f) ≡ 9
 fee-length none = refl
 fee-length (some f) = ap suc (le_bytes-length 8 f)
 
+-- a fee behind its flag, both 0 where it is not known
+pub fee_told : (f : rust.Option ℕ) → fee_field (fee_value f) ≡ (bool_byte (rust.is_some f) ∷ le_bytes 8 (rust.unwrap_or f 0))
+unfolding le_bytes
+fee_told rust.None = refl
+fee_told (rust.Some f) = refl
+
 -- a row has the width of the table
 pub row-length : (i : ℕ) (p : Key) (m : Option Key) (t : Transfer) → length p ≡ 32 → length (mint_field m) ≡ 33 → length t.source ≡ 32 → length t.destination ≡ 32 → length (transfer_row i p m t) ≡ transfer_width
 unfolding transfer_row
@@ -50,11 +60,6 @@ transfer-length κ long id accounts bytes {t} e i p m hp hm = go (moved_of κ id
     by : {x : Transfer} → length x.source ≡ 32 → length x.destination ≡ 32 → some x ≡ some t → length (transfer_row i p m t) ≡ transfer_width
     by {x} hs hd q = subst (λ (y : Transfer). length (transfer_row i p m y) ≡ transfer_width) (some-injective x t q) (row-length i p m x hp hm hs hd)
 
-    go : (r : Moved) → transfer_value κ r ≡ some t → length (transfer_row i p m t) ≡ transfer_width
-    go NotToken q = absurd (none-ne-some t q)
-    go UnsupportedTag q = absurd (none-ne-some t q)
-    go TooFewAccounts q = absurd (none-ne-some t q)
-    go DataTooShort q = absurd (none-ne-some t q)
-    go ZeroKey q = absurd (none-ne-some t q)
-    go (FeeUnknown s d a) q = by (long s) (long d) q
-    go (FeeKnown s d a f) q = by (long s) (long d) q
+    go : (r : Result numbered.Transfer Reason) → transfer_value κ r ≡ some t → length (transfer_row i p m t) ≡ transfer_width
+    go (Ok x) q = by (long x.source) (long x.destination) q
+    go (Err e) q = absurd (none-ne-some t q)

@@ -1,41 +1,32 @@
--- What the last arm of a `match` on a program tells of the program's number: a case's tag is its number, so it is none of those that have an arm.
+-- A program is the one of its number, so one that is not a given program has another number than that.
 -- Assumes nothing.
-use mathlib.Core.Path.{◌≡◌, refl, ◌∙◌, subst}
-use mathlib.Core.Bool.{not}
-use mathlib.Core.List.{List, [], ◌∷◌}
-use Prim.Native.Nat.{ℕ}
-use lib.Dec.{T}
-use mir.Val.{has_key}
-use types.Run.{OneOf, miss}
-use denote.Enum.Declared.{tag_of}
-use Rattle.ids.specs.contracts.Id.{the_type}
+use mathlib.Core.Path.{◌≡◌, refl, sym, ap, ◌∙◌}
+use mathlib.Core.Logic.{◌≢◌}
+use mathlib.Core.Bool.{false}
+use borrow.Author.Tests.{ne_eqb}
 use Rattle.ids.specs.declared.Id.{Id}
 use Rattle.ids.specs.declared.Id.TheVariants.{SplToken, Token2022, WrappedSol, ComputeBudget, AssociatedToken, Memo, PumpFun, LaunchLab, PumpSwap, Clmm, Cpmm, AmmV4, Orca, Dlmm, System, Other, Unresolved}
-use Rattle.ids.specs.Which.{number_of}
+use Rattle.ids.specs.Which.{number_of, same_id, of_number}
 
-tag-number : (id : Id) → tag_of the_type id ≡ number_of id
-tag-number SplToken = refl
-tag-number Token2022 = refl
-tag-number WrappedSol = refl
-tag-number ComputeBudget = refl
-tag-number AssociatedToken = refl
-tag-number Memo = refl
-tag-number PumpFun = refl
-tag-number LaunchLab = refl
-tag-number PumpSwap = refl
-tag-number Clmm = refl
-tag-number Cpmm = refl
-tag-number AmmV4 = refl
-tag-number Orca = refl
-tag-number Dlmm = refl
-tag-number System = refl
-tag-number Other = refl
-tag-number Unresolved = refl
+of-own-number : (id : Id) → of_number (number_of id) ≡ id
+unfolding of_number
+of-own-number SplToken = refl
+of-own-number Token2022 = refl
+of-own-number WrappedSol = refl
+of-own-number ComputeBudget = refl
+of-own-number AssociatedToken = refl
+of-own-number Memo = refl
+of-own-number PumpFun = refl
+of-own-number LaunchLab = refl
+of-own-number PumpSwap = refl
+of-own-number Clmm = refl
+of-own-number Cpmm = refl
+of-own-number AmmV4 = refl
+of-own-number Orca = refl
+of-own-number Dlmm = refl
+of-own-number System = refl
+of-own-number Other = refl
+of-own-number Unresolved = refl
 
--- it is none that has an arm of its own
-pub number-not : (id : Id) (ks : List ℕ) (k : ℕ) → OneOf ks (tag_of the_type id) → T (not (has_key ks k)) → number_of id ≡ k → ⊥
-number-not id ks k h t e = miss ks k t (subst (OneOf ks) (tag-number id ∙ e) h)
-
--- the tags of the programs that are no token programs
-abbrev pub others : List ℕ
-others = 2 ∷ 3 ∷ 4 ∷ 5 ∷ 6 ∷ 7 ∷ 8 ∷ 9 ∷ 10 ∷ 11 ∷ 12 ∷ 13 ∷ 14 ∷ 15 ∷ 16 ∷ []
+pub another : (id p : Id) → id ≢ p → same_id id p ≡ false
+another id p h = ne_eqb _ _ (λ e. h (sym (of-own-number id) ∙ ap of_number e ∙ of-own-number p))

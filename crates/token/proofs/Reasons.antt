@@ -4,25 +4,27 @@ use mathlib.Core.Path.{◌≡◌, refl, sym, ap, ◌∙◌}
 use mathlib.Core.Logic.{◌≢◌, by_cases}
 use mathlib.Core.Bool.{Bool, true, false, cond, ◌&&◌, ◌||◌, and-true, and-false, or-false, false≢true}
 use mathlib.Core.List.{List, [], ◌∷◌, Memᴰ}
-use Prim.Native.Nat.{ℕ, ◌≤◌, ◌<◌}
+use Prim.Native.Nat.{ℕ, ◌≤◌}
 use native.Mathlib.Decide.{ℕ_discrete}
 use native.Mathlib.Omega.{arith}
 use lib.Dec.{leb, eqb}
 use lib.ListN.{length, get_or}
 use borrow.Author.Tests.{ne_eqb, eqb-true, lt-ltb, le-ltb, leb-true, leb-false}
+use Rattle.std.specs.Prelude.{Option, Some, None, Result, Ok, Err}
 use Rattle.wire.specs.Same.{same}
 use Rattle.wire.proofs.Below.{and_left, and_right}
 use Rattle.ids.specs.declared.Id.{Id}
 use Rattle.ids.specs.Keys.{Key, is_zero}
-use Rattle.token.specs.Programs.{is_token, is_spl, is_token2022}
+use Rattle.token.specs.Programs.{is_token, is_token2022}
 use Rattle.token.specs.Tokens.{initialises, plain_transfer, checked_transfer, fee_transfer, plain_amount, checked_amount, fee_transfer_amount, fee_transfer_fee, token_of}
 use Rattle.token.specs.Transfers.{transfer}
 use Rattle.token.specs.Published.{Layout, source, destination, mint, authority, place, standing, role, total, size, starts, transfer_layout, transfer_checked, transfer_checked_with_fee}
 use Rattle.token.specs.Reasons.{transfer_layouts, begins_as, lacks_key, lacking, reason_among, reason, Tells, says_transfer, says_why}
-use Rattle.token.specs.Moved.{transfer_value, reason_of, feeless, accounts_named, why_none, moved_by, moved_of}
-use Rattle.token.specs.declared.Token.TheVariants.{Other, Initialise, Plain, Checked, WithFee}
-use Rattle.token.specs.declared.Moved.{Moved}
-use Rattle.token.specs.declared.Moved.TheVariants.{NotToken, UnsupportedTag, TooFewAccounts, DataTooShort, ZeroKey, FeeUnknown, FeeKnown}
+use Rattle.token.specs.Moved.{transfer_value, reason_number, reason_of, unnamed_fee, accounts_named, why_none, sent_plainly, sent_checked, moved_by, moved_of}
+use Rattle.token.specs.declared.Token.TheVariants.{Initialise, Plain, Checked, WithFee}
+use Rattle.token.specs.declared.moved.Transfer.{Transfer}
+use Rattle.token.specs.declared.moved.Reason.{Reason}
+use Rattle.token.specs.declared.moved.Reason.TheVariants.{NotToken, UnsupportedTag, TooFewAccounts, DataTooShort, ZeroKey}
 use Rattle.token.proofs.Reading.{is-2022, read_none, read-3, read-12, read-26}
 use Rattle.token.proofs.Differences.{token-programs, fee-programs}
 use Rattle.token.proofs.Laws.{moved_value}
@@ -50,18 +52,10 @@ pub lacking-key : (l : Layout) (κ : ℕ → Key) (a d : List ℕ) → length l.
 unfolding lacking
 lacking-key l κ a d h k = rw (le-ltb (length a) (length l.accounts) h, le-ltb (length d) (size l) k)
 
--- the case of a zero key, and that of a transfer
-zero-reason : (z : Bool) (m : Moved) → reason_of m ≡ 0 → reason_of (cond z ZeroKey m) ≡ cond z 5 0
-zero-reason true m e = refl
-zero-reason false m e = e
-
-feeless-reason : (id : Id) (s t x : ℕ) → reason_of (feeless id s t x) ≡ 0
-unfolding feeless
-feeless-reason id s t x = go (is_spl id)
-  where
-    go : (b : Bool) → reason_of (cond b (FeeKnown s t x 0) (FeeUnknown s t x)) ≡ 0
-    go true = refl
-    go false = refl
+-- that of a zero key, and of a transfer
+zero-reason : (z : Bool) (t : Transfer) → reason_of (cond z (Err ZeroKey) (Ok t)) ≡ cond z 5 0
+zero-reason true t = refl
+zero-reason false t = refl
 
 module _ (κ : ℕ → Key) (id : Id) (a d : List ℕ) where
   -- by the layouts
@@ -102,26 +96,26 @@ module _ (κ : ℕ → Key) (id : Id) (a d : List ℕ) where
       rw e (reason-26 (is-2022 id two) (eqb-true _ _ (and_left (eqb (get_or d 0 0) 26) (eqb (get_or d 1 0) 1) tag)) ∙ rw (two, and_right (eqb (get_or d 0 0) 26) (eqb (get_or d 1 0) 1) tag))
 
   -- by the enum: no transfer begins so
-  why-tag : is_token id ≡ true → accounts_named id d ≡ 0 → reason_of (why_none id (length a) d) ≡ 2
+  why-tag : is_token id ≡ true → accounts_named id d ≡ None → reason_number (why_none id (length a) d) ≡ 2
   unfolding why_none
-  why-tag t e = simp (t, e)
+  why-tag t e = rw (t, e)
 
   -- where an instruction that begins as a layout is not read, accounts or data are too few
-  why-lacking : (l : Layout) → is_token id ≡ true → accounts_named id d ≡ length l.accounts → 0 < length l.accounts → (leb (size l) (length d) && leb (length l.accounts) (length a)) ≡ false
-      → reason_of (why_none id (length a) d) ≡ lacking l κ a d
+  why-lacking : (l : Layout) → is_token id ≡ true → accounts_named id d ≡ Some (length l.accounts) → (leb (size l) (length d) && leb (length l.accounts) (length a)) ≡ false
+      → reason_number (why_none id (length a) d) ≡ lacking l κ a d
   unfolding why_none lacking
-  why-lacking l t e h = go (leb (size l) (length d)) refl (leb (length l.accounts) (length a)) refl
+  why-lacking l t e = go (leb (size l) (length d)) refl (leb (length l.accounts) (length a)) refl
     where
-      go : (x : Bool) → leb (size l) (length d) ≡ x → (y : Bool) → leb (length l.accounts) (length a) ≡ y → (x && y) ≡ false → reason_of (why_none id (length a) d) ≡ lacking l κ a d
-      go x p false q f = simp (t, e, ne_eqb (length l.accounts) 0 (λ z. omega arith), lt-ltb (length a) (length l.accounts) (leb-false _ _ q))
-      go false p true q f = simp (t, e, ne_eqb (length l.accounts) 0 (λ z. omega arith), le-ltb (length a) (length l.accounts) (leb-true _ _ q), lt-ltb (length d) (size l) (leb-false _ _ p))
+      go : (x : Bool) → leb (size l) (length d) ≡ x → (y : Bool) → leb (length l.accounts) (length a) ≡ y → (x && y) ≡ false → reason_number (why_none id (length a) d) ≡ lacking l κ a d
+      go x p false q f = rw (t, e) (rw (lt-ltb (length a) (length l.accounts) (leb-false _ _ q)))
+      go false p true q f = rw (t, e) (rw (le-ltb (length a) (length l.accounts) (leb-true _ _ q), lt-ltb (length d) (size l) (leb-false _ _ p)))
       go true p true q f = absurd (false≢true (sym f))
 
   -- and where it is read, a key may be zero
-  read-lacking : (l : Layout) (z : Bool) (m : Moved) → lacks_key l κ a ≡ z → reason_of m ≡ 0 → (leb (size l) (length d) && leb (length l.accounts) (length a)) ≡ true
-      → reason_of (cond z ZeroKey m) ≡ lacking l κ a d
-  read-lacking l z m e f h =
-      zero-reason z m f
+  read-lacking : (l : Layout) (z : Bool) (t : Transfer) → lacks_key l κ a ≡ z → (leb (size l) (length d) && leb (length l.accounts) (length a)) ≡ true
+      → reason_of (cond z (Err ZeroKey) (Ok t)) ≡ lacking l κ a d
+  read-lacking l z t e h =
+      zero-reason z t
       ∙ sym (lacking-key l κ a d (leb-true _ _ (and_right (leb (size l) (length d)) (leb (length l.accounts) (length a)) h)) (leb-true _ _ (and_left (leb (size l) (length d)) (leb (length l.accounts) (length a)) h)) ∙ rw e)
 
   -- the keys that are tested: source and destination, and the mint where one is named
@@ -139,40 +133,43 @@ module _ (κ : ℕ → Key) (id : Id) (a d : List ℕ) where
   moved-1 t = rw (read_none id (length a) d t, t)
 
   moved-3 : is_token id ≡ true → get_or d 0 0 ≡ 3 → reason_of (moved_of κ id a d) ≡ lacking transfer_layout κ a d
-  unfolding transfer_layout size total accounts_named
+  unfolding transfer_layout size total accounts_named sent_plainly
   moved-3 t e = rw (read-3 id (length a) d t e) (go (leb 9 (length d) && leb 3 (length a)) refl)
     where
-      go : (b : Bool) → (leb 9 (length d) && leb 3 (length a)) ≡ b → reason_of (moved_by κ id a d (cond b (Plain (plain_amount d)) Other)) ≡ lacking transfer_layout κ a d
+      go : (b : Bool) → (leb 9 (length d) && leb 3 (length a)) ≡ b → reason_of (moved_by κ id a d (cond b (Some (Plain (plain_amount d))) None)) ≡ lacking transfer_layout κ a d
       go true h =
-          read-lacking transfer_layout (is_zero (κ (get_or a 0 0)) || is_zero (κ (get_or a 1 0))) (feeless id (get_or a 0 0) (get_or a 1 0) (plain_amount d))
-          (lacks-3 (leb-true _ _ (and_right (leb 9 (length d)) (leb 3 (length a)) h)))
-          (feeless-reason id (get_or a 0 0) (get_or a 1 0) (plain_amount d)) h
-      go false h = why-lacking transfer_layout t (simp e) (omega arith) h
+          read-lacking transfer_layout (is_zero (κ (get_or a 0 0)) || is_zero (κ (get_or a 1 0)))
+          record { source = get_or a 0 0; destination = get_or a 1 0; amount = plain_amount d; fee = unnamed_fee id }
+          (lacks-3 (leb-true _ _ (and_right (leb 9 (length d)) (leb 3 (length a)) h))) h
+      go false h = why-lacking transfer_layout t (simp e) h
+
+  -- the two that name their mint
+  sent-lacking : (l : Layout) → l.accounts ≡ source ∷ mint ∷ destination ∷ authority ∷ [] → (x : ℕ) (f : Option ℕ) → (leb (size l) (length d) && leb (length l.accounts) (length a)) ≡ true
+      → 4 ≤ length a → reason_of (sent_checked κ a x f) ≡ lacking l κ a d
+  unfolding sent_checked
+  sent-lacking l q x f h k =
+      read-lacking l (is_zero (κ (get_or a 0 0)) || is_zero (κ (get_or a 2 0)) || is_zero (κ (get_or a 1 0)))
+      record { source = get_or a 0 0; destination = get_or a 2 0; amount = x; fee = f }
+      (lacks-4 l q k) h
 
   moved-12 : is_token id ≡ true → get_or d 0 0 ≡ 12 → reason_of (moved_of κ id a d) ≡ lacking transfer_checked κ a d
   unfolding transfer_checked size total accounts_named
   moved-12 t e = rw (read-12 id (length a) d t e) (go (leb 10 (length d) && leb 4 (length a)) refl)
     where
-      go : (b : Bool) → (leb 10 (length d) && leb 4 (length a)) ≡ b → reason_of (moved_by κ id a d (cond b (Checked (checked_amount d)) Other)) ≡ lacking transfer_checked κ a d
-      go true h =
-          read-lacking transfer_checked (is_zero (κ (get_or a 0 0)) || is_zero (κ (get_or a 2 0)) || is_zero (κ (get_or a 1 0))) (feeless id (get_or a 0 0) (get_or a 2 0) (checked_amount d))
-          (lacks-4 transfer_checked refl (leb-true _ _ (and_right (leb 10 (length d)) (leb 4 (length a)) h)))
-          (feeless-reason id (get_or a 0 0) (get_or a 2 0) (checked_amount d)) h
-      go false h = why-lacking transfer_checked t (simp e) (omega arith) h
+      go : (b : Bool) → (leb 10 (length d) && leb 4 (length a)) ≡ b → reason_of (moved_by κ id a d (cond b (Some (Checked (checked_amount d))) None)) ≡ lacking transfer_checked κ a d
+      go true h = sent-lacking transfer_checked refl (checked_amount d) (unnamed_fee id) h (leb-true _ _ (and_right (leb 10 (length d)) (leb 4 (length a)) h))
+      go false h = why-lacking transfer_checked t (simp e) h
 
   moved-26 : is_token id ≡ true → get_or d 0 0 ≡ 26 → reason_of (moved_of κ id a d) ≡ cond (is_token2022 id && eqb (get_or d 1 0) 1) (lacking transfer_checked_with_fee κ a d) 2
   unfolding transfer_checked_with_fee size total accounts_named
   moved-26 t e = rw (read-26 id (length a) d t e) (go (is_token2022 id && eqb (get_or d 1 0) 1) refl (leb 19 (length d) && leb 4 (length a)) refl)
     where
       go : (f : Bool) → (is_token2022 id && eqb (get_or d 1 0) 1) ≡ f → (b : Bool) → (leb 19 (length d) && leb 4 (length a)) ≡ b
-          → reason_of (moved_by κ id a d (cond (is_token2022 id && eqb (get_or d 1 0) 1 && leb 19 (length d) && leb 4 (length a)) (WithFee (fee_transfer_amount d) (fee_transfer_fee d)) Other))
+          → reason_of (moved_by κ id a d (cond (is_token2022 id && eqb (get_or d 1 0) 1 && leb 19 (length d) && leb 4 (length a)) (Some (WithFee (fee_transfer_amount d) (fee_transfer_fee d))) None))
           ≡ cond f (lacking transfer_checked_with_fee κ a d) 2
       go true p true h =
-          simp (p, h)
-          (read-lacking transfer_checked_with_fee (is_zero (κ (get_or a 0 0)) || is_zero (κ (get_or a 2 0)) || is_zero (κ (get_or a 1 0))) (FeeKnown (get_or a 0 0) (get_or a 2 0) (fee_transfer_amount d) (fee_transfer_fee d))
-          (lacks-4 transfer_checked_with_fee refl (leb-true _ _ (and_right (leb 19 (length d)) (leb 4 (length a)) h)))
-          refl h)
-      go true p false h = simp (p, h) (why-lacking transfer_checked_with_fee t (simp (e, p)) (omega arith) h)
+          simp (p, h) (sent-lacking transfer_checked_with_fee refl (fee_transfer_amount d) (Some (fee_transfer_fee d)) h (leb-true _ _ (and_right (leb 19 (length d)) (leb 4 (length a)) h)))
+      go true p false h = simp (p, h) (why-lacking transfer_checked_with_fee t (simp (e, p)) h)
       go false p b h = simp p (why-tag t (simp (e, p)))
 
   -- what is read with another tag is an initialise, or nothing
@@ -180,7 +177,7 @@ module _ (κ : ℕ → Key) (id : Id) (a d : List ℕ) where
   unfolding token_of plain_transfer checked_transfer fee_transfer accounts_named
   moved-2 t x y z = simp (ne_eqb _ _ x, ne_eqb _ _ y, ne_eqb _ _ z, and-false) (go (initialises id (length a) d))
     where
-      go : (b : Bool) → reason_of (moved_by κ id a d (cond b Initialise Other)) ≡ 2
+      go : (b : Bool) → reason_of (moved_by κ id a d (cond b (Some Initialise) None)) ≡ 2
       go true = refl
       go false = why-tag t (simp (ne_eqb _ _ x, ne_eqb _ _ y, ne_eqb _ _ z))
 
@@ -204,15 +201,14 @@ module _ (κ : ℕ → Key) (id : Id) (a d : List ℕ) where
           (λ z. moved-26 t z ∙ sym (reason-26 t z))
           (λ z. moved-2 t x y z ∙ sym (reason-2 t x y z))))
 
--- a case says why, or has a value
-case-tells : (κ : ℕ → Key) (m : Moved) → Tells (reason_of m) (transfer_value κ m)
-case-tells κ NotToken = says_why {n = 1} (omega arith) (omega arith)
-case-tells κ UnsupportedTag = says_why {n = 2} (omega arith) (omega arith)
-case-tells κ TooFewAccounts = says_why {n = 3} (omega arith) (omega arith)
-case-tells κ DataTooShort = says_why {n = 4} (omega arith) (omega arith)
-case-tells κ ZeroKey = says_why {n = 5} (omega arith) (omega arith)
-case-tells κ (FeeUnknown s d a) = says_transfer
-case-tells κ (FeeKnown s d a f) = says_transfer
+-- each says why, or has a value
+case-tells : (κ : ℕ → Key) (m : Result Transfer Reason) → Tells (reason_of m) (transfer_value κ m)
+case-tells κ (Ok t) = says_transfer
+case-tells κ (Err NotToken) = says_why {n = 1} (omega arith) (omega arith)
+case-tells κ (Err UnsupportedTag) = says_why {n = 2} (omega arith) (omega arith)
+case-tells κ (Err TooFewAccounts) = says_why {n = 3} (omega arith) (omega arith)
+case-tells κ (Err DataTooShort) = says_why {n = 4} (omega arith) (omega arith)
+case-tells κ (Err ZeroKey) = says_why {n = 5} (omega arith) (omega arith)
 
 module _ (κ : ℕ → Key) (id : Id) (a d : List ℕ) where
   -- THE REASON IS 0 EXACTLY WHERE THERE IS A TRANSFER, else one of five
@@ -220,5 +216,5 @@ module _ (κ : ℕ → Key) (id : Id) (a d : List ℕ) where
   reason-tells = rw (← moved-reason κ id a d, ← moved_value κ id a d) (case-tells κ (moved_of κ id a d))
 
   -- a result that is the definition's has the value that the Rust gives, and the reason of the layouts
-  pub tells : {r : Moved} → r ≡ moved_of κ id a d → (r ≡ moved_of κ id a d) × ((transfer_value κ r ≡ transfer κ id a d) × (reason_of r ≡ reason κ id a d))
+  pub tells : {r : Result Transfer Reason} → r ≡ moved_of κ id a d → (r ≡ moved_of κ id a d) × ((transfer_value κ r ≡ transfer κ id a d) × (reason_of r ≡ reason κ id a d))
   tells e = (e, (ap (transfer_value κ) e ∙ moved_value κ id a d, ap reason_of e ∙ moved-reason κ id a d))

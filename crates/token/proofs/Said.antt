@@ -9,12 +9,13 @@ use native.Mathlib.Decide.{ℕ_discrete}
 use lib.Dec.{leb, eqb}
 use lib.ListN.{length, get_or}
 use borrow.Author.Tests.{ne_eqb, leb-true}
+use Rattle.std.specs.Prelude.{Option, Some, None}
 use Rattle.wire.proofs.Below.{and_right}
 use Rattle.ids.specs.declared.Id.{Id}
 use Rattle.token.specs.Programs.{is_token, is_token2022}
 use Rattle.token.specs.Tokens.{initialises, plain_transfer, checked_transfer, fee_transfer, plain_amount, checked_amount, fee_transfer_amount, fee_transfer_fee, token_of}
 use Rattle.token.specs.declared.Token.{Token}
-use Rattle.token.specs.declared.Token.TheVariants.{Other, Initialise, Plain, Checked, WithFee}
+use Rattle.token.specs.declared.Token.TheVariants.{Initialise, Plain, Checked, WithFee}
 
 pub record Tests (id : Id) (n : ℕ) (d : List ℕ) (i p c f : Bool) : Type 0 where
   pub init : initialises id n d ≡ i
@@ -22,12 +23,12 @@ pub record Tests (id : Id) (n : ℕ) (d : List ℕ) (i p c f : Bool) : Type 0 wh
   pub checked : checked_transfer id n d ≡ c
   pub fee : fee_transfer id n d ≡ f
 
-pub data Said (id : Id) (n : ℕ) (d : List ℕ) : Token → Type 0 where
-  initialised : Tests id n d true false false false → 2 ≤ n → Said id n d Initialise
-  plainly : Tests id n d false true false false → 3 ≤ n → Said id n d (Plain (plain_amount d))
-  checkedly : Tests id n d false false true false → 4 ≤ n → Said id n d (Checked (checked_amount d))
-  feely : Tests id n d false false false true → 4 ≤ n → Said id n d (WithFee (fee_transfer_amount d) (fee_transfer_fee d))
-  otherwise : Tests id n d false false false false → Said id n d Other
+pub data Said (id : Id) (n : ℕ) (d : List ℕ) : Option Token → Type 0 where
+  initialised : Tests id n d true false false false → 2 ≤ n → Said id n d (Some Initialise)
+  plainly : Tests id n d false true false false → 3 ≤ n → Said id n d (Some (Plain (plain_amount d)))
+  checkedly : Tests id n d false false true false → 4 ≤ n → Said id n d (Some (Checked (checked_amount d)))
+  feely : Tests id n d false false false true → 4 ≤ n → Said id n d (Some (WithFee (fee_transfer_amount d) (fee_transfer_fee d)))
+  otherwise : Tests id n d false false false false → Said id n d None
 
 module _ (id : Id) (n : ℕ) (d : List ℕ) where
   init-floor : initialises id n d ≡ true → 2 ≤ n

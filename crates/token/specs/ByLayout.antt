@@ -1,13 +1,14 @@
 -- The Rust's answers in the words of the published layouts. A name that a layout has not gives nothing.
 -- Assumes nothing.
 use Rattle.std.specs.Prelude.{ℕ, Bool, false, cond, ◌&&◌, ◌||◌, List, [], ◌∷◌, ◌++◌, leb, eqb, length}
+use Rattle.std.specs.Prelude as rust
 use Rattle.std.proofs.Math.Option.{Option, none, some, Option-elim, bind, or_else}
 use Rattle.ids.specs.declared.Id.{Id}
 use Rattle.ids.specs.Keys.{Key, is_zero}
 use Rattle.token.specs.Tokens.{initialises}
 use Rattle.token.specs.Transfers.{Transfer, fee_of}
 use Rattle.token.specs.declared.Token.{Token}
-use Rattle.token.specs.declared.Token.TheVariants.{Other, Initialise, Plain, Checked, WithFee}
+use Rattle.token.specs.declared.Token.TheVariants.{Initialise, Plain, Checked, WithFee}
 use Rattle.token.specs.Published.{Name, Layout, held, source, destination, mint, amount, fee, transfer_layout, transfer_checked, transfer_checked_with_fee, initialize_account, initialize_account2, initialize_account3, number, role, size, starts, one_of, has_layout}
 
 -- how the Rust takes all but the three transfers: no byte after the fields, and m accounts are enough
@@ -46,14 +47,14 @@ sent l κ id accounts d =
     (some record { source = κ s; destination = κ t; amount = x; fee = or_else (number l fee d) (fee_of id) }))))
 
 -- which token instruction it is, with its numbers
-unfoldable pub published_token : Id → ℕ → List ℕ → Token
+unfoldable pub published_token : Id → ℕ → List ℕ → rust.Option Token
 published_token id n d =
-    cond (exact initialize_account 2 id n d || exact initialize_account2 2 id n d || exact initialize_account3 2 id n d) Initialise
-    (cond (has_layout transfer_layout id n d) (Option-elim (number transfer_layout amount d) Other Plain)
-    (cond (has_layout transfer_checked id n d) (Option-elim (number transfer_checked amount d) Other Checked)
+    cond (exact initialize_account 2 id n d || exact initialize_account2 2 id n d || exact initialize_account3 2 id n d) (rust.Some Initialise)
+    (cond (has_layout transfer_layout id n d) (Option-elim (number transfer_layout amount d) rust.None (λ x. rust.Some (Plain x)))
+    (cond (has_layout transfer_checked id n d) (Option-elim (number transfer_checked amount d) rust.None (λ x. rust.Some (Checked x)))
     (cond (has_layout transfer_checked_with_fee id n d)
-    (Option-elim (number transfer_checked_with_fee amount d) Other (λ x. Option-elim (number transfer_checked_with_fee fee d) Other (WithFee x)))
-    Other)))
+    (Option-elim (number transfer_checked_with_fee amount d) rust.None (λ x. Option-elim (number transfer_checked_with_fee fee d) rust.None (λ y. rust.Some (WithFee x y))))
+    rust.None)))
 
 -- the transfer that it gives
 unfoldable pub published_transfer : (ℕ → Key) → Id → List ℕ → List ℕ → Option Transfer

@@ -1,78 +1,92 @@
--- The transfer that an instruction gives, in numbers: its accounts by their index bytes; or why it gives none. `transfer_value` gives each case its value, and
+-- The transfer that an instruction gives, in numbers: its accounts by their index bytes; or why it gives none. `transfer_value` gives it its value, and
 -- `reason_of` its number.
 -- Assumes nothing.
-use Rattle.std.specs.Prelude.{ℕ, cond, ◌&&◌, ◌||◌, List, ltb, eqb, length, get_or}
-use Rattle.std.proofs.Math.Option.{Option, none, some}
+use Rattle.std.specs.Prelude.{ℕ, cond, ◌&&◌, ◌||◌, List, ltb, eqb, length, get_or, Option, Some, None, Result, Ok, Err}
+use Rattle.std.proofs.Math.Option as maybe
 use Rattle.ids.specs.declared.Id.{Id}
 use Rattle.ids.specs.Keys.{Key, is_zero}
 use Rattle.token.specs.Programs.{is_token, is_spl, is_token2022}
 use Rattle.token.specs.Tokens.{token_of}
-use Rattle.token.specs.Transfers.{Transfer}
+use Rattle.token.specs.Transfers as value
 use Rattle.token.specs.declared.Token.{Token}
-use Rattle.token.specs.declared.Token.TheVariants.{Other, Initialise, Plain, Checked, WithFee}
-use Rattle.token.specs.declared.Moved.{Moved}
-use Rattle.token.specs.declared.Moved.TheVariants.{NotToken, UnsupportedTag, TooFewAccounts, DataTooShort, ZeroKey, FeeUnknown, FeeKnown}
+use Rattle.token.specs.declared.Token.TheVariants.{Initialise, Plain, Checked, WithFee}
+use Rattle.token.specs.declared.moved.Transfer.{Transfer}
+use Rattle.token.specs.declared.moved.Reason.{Reason}
+use Rattle.token.specs.declared.moved.Reason.TheVariants.{NotToken, UnsupportedTag, TooFewAccounts, DataTooShort, ZeroKey}
 
--- the transfer that a case stands for; κ gives the key of an index
-abbrev pub transfer_value : (ℕ → Key) → Moved → Option Transfer
-transfer_value κ NotToken = none
-transfer_value κ UnsupportedTag = none
-transfer_value κ TooFewAccounts = none
-transfer_value κ DataTooShort = none
-transfer_value κ ZeroKey = none
-transfer_value κ (FeeUnknown s d a) = some record { source = κ s; destination = κ d; amount = a; fee = none }
-transfer_value κ (FeeKnown s d a f) = some record { source = κ s; destination = κ d; amount = a; fee = some f }
+-- a fee that may not be known, in the words of the definitions
+abbrev pub fee_value : Option ℕ → maybe.Option ℕ
+fee_value None = maybe.none
+fee_value (Some f) = maybe.some f
 
--- the number of a case: 0 for a transfer, else why there is none
-abbrev pub reason_of : Moved → ℕ
-reason_of NotToken = 1
-reason_of UnsupportedTag = 2
-reason_of TooFewAccounts = 3
-reason_of DataTooShort = 4
-reason_of ZeroKey = 5
-reason_of (FeeUnknown s d a) = 0
-reason_of (FeeKnown s d a f) = 0
+-- the transfer that its numbers stand for; κ gives the key of an index
+abbrev pub keyed : (ℕ → Key) → Transfer → value.Transfer
+keyed κ t = record { source = κ t.source; destination = κ t.destination; amount = t.amount; fee = fee_value t.fee }
+
+-- the transfer, where there is one
+abbrev pub transfer_value : (ℕ → Key) → Result Transfer Reason → maybe.Option value.Transfer
+transfer_value κ (Ok t) = maybe.some (keyed κ t)
+transfer_value κ (Err e) = maybe.none
+
+-- the number of a reason
+abbrev pub reason_number : Reason → ℕ
+reason_number NotToken = 1
+reason_number UnsupportedTag = 2
+reason_number TooFewAccounts = 3
+reason_number DataTooShort = 4
+reason_number ZeroKey = 5
+
+-- 0 for a transfer, else the number of why there is none
+abbrev pub reason_of : Result Transfer Reason → ℕ
+reason_of (Ok t) = 0
+reason_of (Err e) = reason_number e
 
 -- the fee of a transfer that names none: 0 under SPL Token, not known under Token-2022
-unfoldable pub feeless : Id → ℕ → ℕ → ℕ → Moved
-feeless id s d a = cond (is_spl id) (FeeKnown s d a 0) (FeeUnknown s d a)
+unfoldable pub unnamed_fee : Id → Option ℕ
+unnamed_fee id = cond (is_spl id) (Some 0) None
 
--- the accounts that a transfer with the tag of d asks for; 0 where no transfer begins so
-unfoldable pub accounts_named : Id → List ℕ → ℕ
+-- the accounts that a transfer with the tag of d asks for; none where no transfer begins so
+unfoldable pub accounts_named : Id → List ℕ → Option ℕ
 accounts_named id d =
-    cond (eqb (get_or d 0 0) 3) 3
-    (cond (eqb (get_or d 0 0) 12) 4
-    (cond (eqb (get_or d 0 0) 26) (cond (is_token2022 id && eqb (get_or d 1 0) 1) 4 0)
-    0))
+    cond (eqb (get_or d 0 0) 3) (Some 3)
+    (cond (eqb (get_or d 0 0) 12) (Some 4)
+    (cond (eqb (get_or d 0 0) 26 && (is_token2022 id && eqb (get_or d 1 0) 1)) (Some 4)
+    None))
+
+-- by the accounts that are asked for, why an instruction with n accounts gives no transfer
+abbrev pub lacking_by : ℕ → Option ℕ → Reason
+lacking_by n None = UnsupportedTag
+lacking_by n (Some named) = cond (ltb n named) TooFewAccounts DataTooShort
 
 -- why an instruction with n accounts that is not read as a transfer gives none
-unfoldable pub why_none : Id → ℕ → List ℕ → Moved
-why_none id n d =
-    cond (is_token id) (cond (eqb (accounts_named id d) 0) UnsupportedTag (cond (ltb n (accounts_named id d)) TooFewAccounts DataTooShort)) NotToken
+unfoldable pub why_none : Id → ℕ → List ℕ → Reason
+why_none id n d = cond (is_token id) (lacking_by n (accounts_named id d)) NotToken
+
+-- source and destination side by side; a zero one gives no transfer
+unfoldable pub sent_plainly : (ℕ → Key) → List ℕ → ℕ → Option ℕ → Result Transfer Reason
+sent_plainly κ accounts a fee =
+    cond (is_zero (κ (get_or accounts 0 0)) || is_zero (κ (get_or accounts 1 0))) (Err ZeroKey)
+    (Ok record { source = get_or accounts 0 0; destination = get_or accounts 1 0; amount = a; fee = fee })
+
+-- the mint between them; a zero one of the three gives no transfer
+unfoldable pub sent_checked : (ℕ → Key) → List ℕ → ℕ → Option ℕ → Result Transfer Reason
+sent_checked κ accounts a fee =
+    cond (is_zero (κ (get_or accounts 0 0)) || is_zero (κ (get_or accounts 2 0)) || is_zero (κ (get_or accounts 1 0))) (Err ZeroKey)
+    (Ok record { source = get_or accounts 0 0; destination = get_or accounts 2 0; amount = a; fee = fee })
 
 -- by the instruction read
-abbrev pub moved_by : (ℕ → Key) → Id → List ℕ → List ℕ → Token → Moved
-moved_by κ id accounts d Other = why_none id (length accounts) d
-moved_by κ id accounts d Initialise = UnsupportedTag
-moved_by κ id accounts d (Plain a) =
-    cond (is_zero (κ (get_or accounts 0 0)) || is_zero (κ (get_or accounts 1 0))) ZeroKey (feeless id (get_or accounts 0 0) (get_or accounts 1 0) a)
-moved_by κ id accounts d (Checked a) =
-    cond (is_zero (κ (get_or accounts 0 0)) || is_zero (κ (get_or accounts 2 0)) || is_zero (κ (get_or accounts 1 0))) ZeroKey
-    (feeless id (get_or accounts 0 0) (get_or accounts 2 0) a)
-moved_by κ id accounts d (WithFee a f) =
-    cond (is_zero (κ (get_or accounts 0 0)) || is_zero (κ (get_or accounts 2 0)) || is_zero (κ (get_or accounts 1 0))) ZeroKey
-    (FeeKnown (get_or accounts 0 0) (get_or accounts 2 0) a f)
+abbrev pub moved_by : (ℕ → Key) → Id → List ℕ → List ℕ → Option Token → Result Transfer Reason
+moved_by κ id accounts d None = Err (why_none id (length accounts) d)
+moved_by κ id accounts d (Some Initialise) = Err UnsupportedTag
+moved_by κ id accounts d (Some (Plain a)) = sent_plainly κ accounts a (unnamed_fee id)
+moved_by κ id accounts d (Some (Checked a)) = sent_checked κ accounts a (unnamed_fee id)
+moved_by κ id accounts d (Some (WithFee a f)) = sent_checked κ accounts a (Some f)
 
 -- by program, accounts and data
-abbrev pub moved_of : (ℕ → Key) → Id → List ℕ → List ℕ → Moved
+abbrev pub moved_of : (ℕ → Key) → Id → List ℕ → List ℕ → Result Transfer Reason
 moved_of κ id accounts d = moved_by κ id accounts d (token_of id (length accounts) d)
 
 -- the index of a transfer's source; 0 where there is no transfer, whose mint then does not matter
-abbrev pub source_by : Moved → ℕ
-source_by NotToken = 0
-source_by UnsupportedTag = 0
-source_by TooFewAccounts = 0
-source_by DataTooShort = 0
-source_by ZeroKey = 0
-source_by (FeeUnknown s d a) = s
-source_by (FeeKnown s d a f) = s
+abbrev pub source_by : Result Transfer Reason → ℕ
+source_by (Ok t) = t.source
+source_by (Err e) = 0

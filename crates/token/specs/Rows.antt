@@ -8,7 +8,6 @@ use Rattle.wire.specs.Zeros.{zeros}
 use Rattle.ids.specs.Keys.{Key}
 use Rattle.ids.specs.Mints.{mint_field}
 use Rattle.token.specs.Transfers.{Transfer}
-use Rattle.token.specs.declared.row.Fields.{Fields}
 
 -- the bytes of a row
 abbrev pub transfer_width : ℕ
@@ -22,11 +21,6 @@ fee_field (some f) = 1 ∷ le_bytes 8 f
 unfoldable pub transfer_row : ℕ → Key → Option Key → Transfer → List ℕ
 transfer_row i program mint t =
     le_bytes 4 i ++ program ++ t.source ++ t.destination ++ mint_field mint ++ le_bytes 8 t.amount ++ fee_field t.fee
-
--- the same by numbers: κ gives the key of an index, and the fee stands behind a flag
-unfoldable pub row_by_numbers : ℕ → (ℕ → Key) → ℕ → Option Key → Fields → List ℕ
-row_by_numbers i κ program mint f =
-    le_bytes 4 i ++ κ program ++ κ f.source ++ κ f.destination ++ mint_field mint ++ le_bytes 8 f.amount ++ (f.known ∷ le_bytes 8 f.fee)
 
 -- the bytes that an instruction adds to the table
 abbrev pub transfer_bytes : ℕ → Key → Option Key → Option Transfer → List ℕ

@@ -1,11 +1,11 @@
 -- What the Rust accepts as a token instruction: by program, number n of accounts, and data d. Data of no bytes has first byte 0, which is no tag.
 -- Assumes nothing.
-use Rattle.std.specs.Prelude.{ℕ, Bool, cond, ◌&&◌, ◌||◌, List, leb, eqb, length, get_or}
+use Rattle.std.specs.Prelude.{ℕ, Bool, cond, ◌&&◌, ◌||◌, List, leb, eqb, length, get_or, Option, Some, None}
 use Rattle.wire.specs.Le.{le}
 use Rattle.ids.specs.declared.Id.{Id}
 use Rattle.token.specs.Programs.{is_token, is_token2022}
 use Rattle.token.specs.declared.Token.{Token}
-use Rattle.token.specs.declared.Token.TheVariants.{Other, Initialise, Plain, Checked, WithFee}
+use Rattle.token.specs.declared.Token.TheVariants.{Initialise, Plain, Checked, WithFee}
 
 -- the third test of `token_mints_from_invocations`: exactly [1], or 33 bytes of tag 16 or 18
 unfoldable pub initialises : Id → ℕ → List ℕ → Bool
@@ -38,10 +38,10 @@ abbrev pub fee_transfer_fee : List ℕ → ℕ
 fee_transfer_fee d = le 8 d 11
 
 -- which of these an instruction is, with the numbers that it names; no two of them share a tag
-unfoldable pub token_of : Id → ℕ → List ℕ → Token
+unfoldable pub token_of : Id → ℕ → List ℕ → Option Token
 token_of id n d =
-    cond (initialises id n d) Initialise
-    (cond (plain_transfer id n d) (Plain (plain_amount d))
-    (cond (checked_transfer id n d) (Checked (checked_amount d))
-    (cond (fee_transfer id n d) (WithFee (fee_transfer_amount d) (fee_transfer_fee d))
-    Other)))
+    cond (initialises id n d) (Some Initialise)
+    (cond (plain_transfer id n d) (Some (Plain (plain_amount d)))
+    (cond (checked_transfer id n d) (Some (Checked (checked_amount d)))
+    (cond (fee_transfer id n d) (Some (WithFee (fee_transfer_amount d) (fee_transfer_fee d)))
+    None)))
