@@ -10,11 +10,12 @@ use native.Mathlib.Omega.{arith}
 use lib.ListN.{length, get_or, set, take, replicate, length-map, length-set, length-take, get_or-map}
 use Rattle.std.proofs.lemmas.List.{get_or_past, get_or-replicate, length-replicate}
 use lib.Seq.{get_or-set_same, get_or-set_other, get_or-take}
+use Rattle.std.specs.Prelude.{Option, Some, None}
 use Rattle.ids.specs.Keys.{Key, key_of}
 use Rattle.ids.specs.Which.{program_at}
 use Rattle.pack.specs.Invocation.{Instruction, instruction_at}
 use Rattle.token.specs.declared.Token.{Token}
-use Rattle.token.specs.declared.Token.TheVariants.{Other, Initialise, Plain, Checked, WithFee}
+use Rattle.token.specs.declared.Token.TheVariants.{Initialise, Plain, Checked, WithFee}
 use Rattle.evidence.specs.Table.{Row, Table}
 use Rattle.evidence.specs.Evidence.{note_all}
 use Rattle.evidence.specs.Passes.{Transfers}
@@ -96,14 +97,14 @@ quiet {ps} h k =
 
 module _ {n : ℕ} {α κ : ℕ → Key} (p : RowsApart n α) (long : (j : ℕ) → length (κ j) ≡ 32) (row : List ℕ) (at : Indexed n α κ row) where
   -- one instruction more
-  collect : (size : ℕ) (token : Token) (a : List ℕ) (g : Gathered) (t : Table) (ps : Transfers) → g.count < size → Collected n α size g t ps
+  collect : (size : ℕ) (token : Option Token) (a : List ℕ) (g : Gathered) (t : Table) (ps : Transfers) → g.count < size → Collected n α size g t ps
       → Collected n α size (gather_at κ row token a g) (note_all t (pieces κ token a)) (ps ++ moved κ token a)
-  unfolding gather_at is_plain transfer_of moved
-  collect size Other a g t ps c h = quiet h (observes p long row at Other a g.noted t h.notes)
-  collect size Initialise a g t ps c h = quiet h (observes p long row at Initialise a g.noted t h.notes)
-  collect size (Checked k) a g t ps c h = quiet h (observes p long row at (Checked k) a g.noted t h.notes)
-  collect size (WithFee k f) a g t ps c h = quiet h (observes p long row at (WithFee k f) a g.noted t h.notes)
-  collect size (Plain k) a g t ps c h =
+  unfolding gather_at is_plain transfer_of moved pieces note_all
+  collect size None a g t ps c h = quiet h h.notes
+  collect size (Some Initialise) a g t ps c h = quiet h (observes p long row at Initialise a g.noted t h.notes)
+  collect size (Some (Checked k)) a g t ps c h = quiet h (observes p long row at (Checked k) a g.noted t h.notes)
+  collect size (Some (WithFee k f)) a g t ps c h = quiet h (observes p long row at (WithFee k f) a g.noted t h.notes)
+  collect size (Some (Plain k)) a g t ps c h =
       let x = row-account p long row at a 0 in
       let y = row-account p long row at a 1 in
       let i : g.count < length g.transfers = omega (arith, h.whole) in
@@ -115,14 +116,19 @@ module _ {n : ℕ} {α κ : ℕ → Key} (p : RowsApart n α) (long : (j : ℕ) 
       }
 
 -- at most one transfer more
+counted-one : (κ : ℕ → Key) (row : List ℕ) (token : Option Token) (a : List ℕ) (g : Gathered) → (gather_at κ row token a g).count ≤ g.count + 1
+unfolding gather_at
+counted-one κ row None a g = omega arith
+counted-one κ row (Some token) a g = go (is_plain token)
+  where
+    go : (b : Bool) → cond b (suc g.count) g.count ≤ g.count + 1
+    go true = omega arith
+    go false = omega arith
+
 pub count-bound : (ks p offsets row : List ℕ) (g : Gathered) (i : ℕ) → (gather_to ks p offsets row g i).count ≤ g.count + i
 unfolding gather_to gather_at
 count-bound ks p offsets row g zero = omega arith
-count-bound ks p offsets row g (suc i) = go (is_plain (token_at ks p (get_or offsets i 0))) (count-bound ks p offsets row g i)
-  where
-    go : (b : Bool) → (gather_to ks p offsets row g i).count ≤ g.count + i → cond b (suc (gather_to ks p offsets row g i).count) (gather_to ks p offsets row g i).count ≤ g.count + suc i
-    go true h = omega arith
-    go false h = omega arith
+count-bound ks p offsets row g (suc i) = omega (arith, count-bound ks p offsets row g i, counted-one (key_of ks) row (token_at ks p (get_or offsets i 0)) (instruction_at p (get_or offsets i 0)).accounts (gather_to ks p offsets row g i))
 
 -- the instructions at the offsets
 abbrev pub instructions : List ℕ → List ℕ → List Instruction

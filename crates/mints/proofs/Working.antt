@@ -23,7 +23,7 @@ use Rattle.mints.specs.Order.{sort_to, rows_bytes, mints_to}
 use Rattle.mints.specs.Inference.{inferred, inferred_in, answer_of, mint_bytes, final_of}
 use Rattle.mints.proofs.Written.{cell, cells-bytes}
 use Rattle.mints.proofs.Collected.{Collected, count-bound, taken-within}
-use Rattle.mints.proofs.Gathering.{two-more}
+use Rattle.mints.proofs.Gathering.{two-at-most}
 use Rattle.mints.specs.Bytes.{mint_width}
 use Rattle.mints.proofs.Preparing.{rows-laid, laid-index, laid-fits, balances-bound}
 use Rattle.mints.proofs.Prepared.{evidence_in, transfers_in, accounts, apart, prepared}
@@ -34,7 +34,7 @@ room_bound : (ks p o row : List ℕ) (g : Gathered) (i : ℕ) → (gather_to ks 
 unfolding gather_to gather_at
 room_bound ks p o row g zero = omega arith
 room_bound ks p o row g (suc i) =
-    omega (arith, room_bound ks p o row g i, two-more (key_of ks) row (token_at ks p (get_or o i 0)) (instruction_at p (get_or o i 0)).accounts (gather_to ks p o row g i).noted)
+    omega (arith, room_bound ks p o row g i, two-at-most (key_of ks) row (token_at ks p (get_or o i 0)) (instruction_at p (get_or o i 0)).accounts (gather_to ks p o row g i))
 
 all-counted : (ks b p o : List ℕ) → (gathered_of ks b p o).count ≤ length o
 unfolding gathered_of

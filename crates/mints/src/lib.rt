@@ -1,7 +1,7 @@
 // Mints: which mint each account holds, from what is recorded and what plain transfers hand on.
 //
 // `infer` answers how many rows table 0 needs and has, and after how many passes; it leaves these rows, ascending by account, and the final mint of each
-// key index, and the number of each invocation's program. Each key is searched once, in a linear table; evidence, passes, marks and lookups go by row numbers.
+// key index, and each invocation's program. Each key is searched once, in a linear table; evidence, passes, marks and lookups go by row numbers.
 #![tactic(auto)]
 
 ghost use Rattle.std.specs.Prelude.{◌≡◌, ◌*◌, ◌≤◌, length, take, MatchResult};
@@ -21,6 +21,7 @@ mod order;
 mod pass;
 mod table;
 
+use ids::Id;
 use pass::Transfer;
 
 // The bytes of a row of table 0, and of the working table, whose rows have a state in the place of the mark.
@@ -47,7 +48,7 @@ struct Concluded {
 }
 
 // Lays the rows of the keys, notes all evidence in them, hands mints on along the plain transfers, and marks those that the transfers put in doubt; keeps
-// the numbers of the programs.
+// the programs.
 fn conclude(
     keys: &[u8],
     balances: &[u8],
@@ -55,7 +56,7 @@ fn conclude(
     at: &[u32],
     table: &mut [u8],
     row: &mut [u32],
-    programs: &mut [u8; 1024],
+    programs: &mut [Id; 1024],
 ) -> Result<Concluded, TooManyPasses>
     requires { (length keys.now ≤ 8448) × (length at.now ≤ 1024) × (table.old ≡ zeros (257 * mint_width)) × (row.old ≡ zeros 256) }
     ensures value { MatchResult result
@@ -111,8 +112,7 @@ fn first_offsets(at: &[u32]) -> &[u32]
     &at[..at.len().min(1024)]
 }
 
-// The mint table: its rows into `rows`, and the final mint of each key index, 32 bytes, into `known`; the number of each invocation's program into
-// `programs`.
+// The mint table: its rows into `rows`, and the final mint of each key index, 32 bytes, into `known`; each invocation's program into `programs`.
 //
 // `at` are the offsets of the invocations' instructions in the pack. Of the keys the first 256 count, of the invocations the first 1,024.
 pub fn infer(
@@ -122,7 +122,7 @@ pub fn infer(
     at: &[u32],
     rows: &mut [u8],
     known: &mut [u8; 8192],
-    programs: &mut [u8; 1024],
+    programs: &mut [Id; 1024],
 ) -> Result<Made, TooManyPasses>
     ensures value { result ≡ answer_of (inferred_of keys.now balances.now pack.now at.now) }
     ensures rows_after { rows.new

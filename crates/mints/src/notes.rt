@@ -11,6 +11,7 @@ ghost use Rattle.mints.specs.Programs.{programs_of};
 
 use crate::WIDTH;
 use crate::pass::Transfer;
+use ids::Id;
 use token::Token;
 
 // The row of a key index: row 0, the zero key's, past the keys.
@@ -131,30 +132,20 @@ fn observe(
         ≡ record { table = table.exit.now; room = result } }
 {
     match token {
-        Token::Other => room,
         Token::Initialise => note_account(keys, accounts, row, table, room, 0),
         Token::Plain(_) => room,
-        Token::Checked(_) => {
-            let n = note_account(keys, accounts, row, table, room, 0);
-            note_account(keys, accounts, row, table, n, 2)
-        }
-        Token::WithFee(_, _) => {
+        Token::Checked(_) | Token::WithFee(_, _) => {
             let n = note_account(keys, accounts, row, table, room, 0);
             note_account(keys, accounts, row, table, n, 2)
         }
     }
 }
 
+#[tactic(auto, unfolding(crate::specs::Gather::is_plain))]
 fn is_plain(token: Token) -> bool
     ensures { result ≡ is_plain token }
 {
-    match token {
-        Token::Plain(_) => true,
-        Token::Other => false,
-        Token::Initialise => false,
-        Token::Checked(_) => false,
-        Token::WithFee(_, _) => false,
-    }
+    matches!(token, Token::Plain(_))
 }
 
 // A plain transfer as the rows of its source and destination.
@@ -194,7 +185,7 @@ pub struct Gathered {
     pub count: usize,
 }
 
-// Records the evidence of the instructions at the offsets, and lists their plain transfers; keeps the numbers of their programs.
+// Records the evidence of the instructions at the offsets, and lists their plain transfers; keeps their programs.
 pub(crate) fn gather(
     keys: &[u8],
     pack: &[u8],
@@ -202,7 +193,7 @@ pub(crate) fn gather(
     row: &[u32],
     table: &mut [u8],
     transfers: &mut [Transfer],
-    programs: &mut [u8; 1024],
+    programs: &mut [Id; 1024],
 ) -> Gathered
     requires at_in_bounds { (length at.now ≤ length transfers.old) × (length at.now ≤ 1024) }
     requires fits { Fits table.old row.now × (key_count keys.now ≤ 256) }
@@ -210,21 +201,22 @@ pub(crate) fn gather(
         ≡ record { noted = record { table = table.exit.now; room = result.room }; transfers = transfers.new; count = result.count } }
     ensures programs_after { programs.new ≡ sets programs.old 0 (programs_of keys.now pack.now at.now) }
 {
-    let mut numbers = [0u8; 256];
-    ids::programs::fill(keys, &mut numbers);
+    let mut kept = [Id::Unresolved; 256];
+    ids::programs::fill(keys, &mut kept);
     let mut room = 0;
     let mut count = 0;
     for i in 0..at.len() {
         let o = at[i] as usize;
-        let number = ids::programs::number(&numbers, pack::program(pack, o) as usize);
-        programs[i] = number;
-        let id = ids::of_number(number);
+        let id = ids::programs::program(&kept, pack::program(pack, o) as usize);
+        programs[i] = id;
         // Nothing more is read of other programs.
         if !token::token_program(id) {
             continue;
         }
         let accounts = pack::accounts(pack, o);
-        let token = token::parse(id, accounts.len(), pack::data(pack, o));
+        let Some(token) = token::parse(id, accounts.len(), pack::data(pack, o)) else {
+            continue;
+        };
         room = observe(token, keys, accounts, row, table, room);
         count = list(token, accounts, row, transfers, count);
     }
