@@ -11,7 +11,6 @@ use Prim.Native.Nat.{ℕ, zero, suc, ◌<◌}
 use native.Mathlib.Decide.{ℕ_discrete}
 use native.Mathlib.Omega.{arith}
 use lib.Dec.{ltb}
-use lib.ListN.{get_or}
 use borrow.Author.Tests.{lt-ltb, le-ltb, ltb-true}
 use Rattle.wire.specs.Same.{same}
 use Rattle.wire.proofs.Same.{same-eq, same-ne}
@@ -28,6 +27,8 @@ use Rattle.evidence.proofs.Final.{gives-final}
 use Rattle.evidence.proofs.Lookups.{known, known-mint, known-zero, final-lookup, zero-lacks}
 use Rattle.evidence.proofs.Doubts.{Differ, Doubtful, doubtful-free, doubtful-doubt}
 use Rattle.mints.specs.Cells.{mint_at, state_at, state_says}
+use Rattle.mints.specs.declared.pass.Transfer.{Transfer}
+use Rattle.mints.specs.Pass.{from_at, to_at}
 use Rattle.mints.specs.Doubt.{differ_at}
 use Rattle.mints.proofs.Holding.{RowsApart, not-zero, HoldsRows, was}
 use Rattle.mints.proofs.Stepped.{Held, pairs_to}
@@ -132,20 +133,20 @@ module _ {n : ℕ} {α : ℕ → Key} {e : Evidence} {ps : Transfers} {t : Table
   doubtful-filled r l d = let k = complete s (doubtful-doubt s d).chain in filled r l (doubtful-free d) k.1 k.2
 
 -- the transfers by the row numbers of their ends
-pub pair-in : (α : ℕ → Key) (f g : List ℕ) (i c : ℕ) → i < c → Memᴰ (α (get_or f i 0), α (get_or g i 0)) (pairs_to α f g c)
+pub pair-in : (α : ℕ → Key) (ts : List Transfer) (i c : ℕ) → i < c → Memᴰ (α (from_at ts i), α (to_at ts i)) (pairs_to α ts c)
 unfolding pairs_to
-pair-in α f g i zero h = absurd (omega arith)
-pair-in α f g i (suc c) h =
+pair-in α ts i zero h = absurd (omega arith)
+pair-in α ts i (suc c) h =
     by_cases
     (ℕ_discrete i c)
-    (λ q. rw q (Memᴰ.append_right (pairs_to α f g c) (Memᴰ.head refl)))
-    (λ q. Memᴰ.append_left ((α (get_or f c 0), α (get_or g c 0)) ∷ []) (pair-in α f g i c (omega arith)))
+    (λ q. rw q (Memᴰ.append_right (pairs_to α ts c) (Memᴰ.head refl)))
+    (λ q. Memᴰ.append_left ((α (from_at ts c), α (to_at ts c)) ∷ []) (pair-in α ts i c (omega arith)))
 
-pub in_pairs : (α : ℕ → Key) (f g : List ℕ) (c : ℕ) {x : Row} → Memᴰ x (pairs_to α f g c) → (i : ℕ) × (i < c) × (x ≡ (α (get_or f i 0), α (get_or g i 0)))
+pub in_pairs : (α : ℕ → Key) (ts : List Transfer) (c : ℕ) {x : Row} → Memᴰ x (pairs_to α ts c) → (i : ℕ) × (i < c) × (x ≡ (α (from_at ts i), α (to_at ts i)))
 unfolding pairs_to
-in_pairs α f g zero m = absurd (Memᴰ.not-nil m)
-in_pairs α f g (suc c) m =
+in_pairs α ts zero m = absurd (Memᴰ.not-nil m)
+in_pairs α ts (suc c) m =
     ⊎_elim
-    (λ k. let r = in_pairs α f g c k in (r.0, omega (arith, r.1), r.2))
+    (λ k. let r = in_pairs α ts c k in (r.0, omega (arith, r.1), r.2))
     (λ k. (c, omega arith, Memᴰ.eq_of_singleton k))
-    (Memᴰ.append_cases (pairs_to α f g c) m)
+    (Memᴰ.append_cases (pairs_to α ts c) m)

@@ -15,6 +15,8 @@ use borrow.Author.Tests.{eq-eqb, ne_eqb}
 use Rattle.wire.proofs.Sets.{sets_more, sets-after}
 use Rattle.wire.proofs.Tab.{tab-length, tab-at}
 use Rattle.mints.specs.Cells.{state_at}
+use Rattle.mints.specs.declared.pass.Transfer.{Transfer}
+use Rattle.mints.specs.Pass.{from_at, to_at}
 use Rattle.mints.specs.Doubt.{differ_at, own_labels, renamed, relabelled, join_at, suspect_at, meet_at, labels_to, doubt_at, marks_to}
 
 -- one label more, for a row of its own
@@ -76,9 +78,9 @@ module _ (t l : List ℕ) (a b : ℕ) where
   meet-target d p q = rw (d, eq-eqb _ _ p, ne_eqb _ _ q)
 
 -- one transfer more
-pub meet-next : (f g t l : List ℕ) (i : ℕ) {k : List ℕ} → k ≡ labels_to f g t l i → meet_at t k (get_or f i 0) (get_or g i 0) ≡ labels_to f g t l (i + 1)
+pub meet-next : (ts : List Transfer) (t l : List ℕ) (i : ℕ) {k : List ℕ} → k ≡ labels_to ts t l i → meet_at t k (from_at ts i) (to_at ts i) ≡ labels_to ts t l (i + 1)
 unfolding labels_to
-meet-next f g t l i e = rw (add-one i, e)
+meet-next ts t l i e = rw (add-one i, e)
 
 -- one row more
 module _ (t l : List ℕ) (r : ℕ) {u : List ℕ} (e : u ≡ marks_to t l r) where

@@ -17,6 +17,8 @@ use Rattle.evidence.proofs.Infer.{Settled}
 use Rattle.evidence.proofs.Doubts.{Doubtful}
 use Rattle.mints.specs.Bytes.{mint_width}
 use Rattle.mints.specs.Cells.{account_at, mint_at, state_at}
+use Rattle.mints.specs.declared.pass.Transfer.{Transfer}
+use Rattle.mints.specs.Pass.{from_at, to_at}
 use Rattle.mints.specs.Doubt.{doubt_at, marks_to, own_labels, labels_to, doubts_of}
 use Rattle.mints.proofs.States.{marked, marked-mint, marked-still, doubt-here, doubt-other, doubt-account, doubt-mint, doubt-length}
 use Rattle.mints.proofs.Holding.{RowsApart}
@@ -70,10 +72,10 @@ module _ {n : ℕ} {α : ℕ → Key} {e : Evidence} {ps : Transfers} {t : Table
   has-mint {w} m r k = rw (m.state r k) (marked-mint (state_at w r) (eqb (get_or m.label r 0) 0))
 
   -- what the walk over the transfers comes to
-  pub doubts-marked : {w : List ℕ} → RowsApart n α → Settled e ps t → Held n α (recorded e) w t → (f g : List ℕ) (c : ℕ) → pairs_to α f g c ≡ ps
-      → ((i : ℕ) → get_or f i 0 < n) → ((i : ℕ) → get_or g i 0 < n) → Marked n α e ps t w (doubts_of f g c w n)
-  doubts-marked {w} p s h f g c all x y =
-      let l = labels_to f g w (own_labels n) c in
+  pub doubts-marked : {w : List ℕ} → RowsApart n α → Settled e ps t → Held n α (recorded e) w t → (ts : List Transfer) → pairs_to α ts (length ts) ≡ ps
+      → ((i : ℕ) → from_at ts i < n) → ((i : ℕ) → to_at ts i < n) → Marked n α e ps t w (doubts_of ts w n)
+  doubts-marked {w} p s h ts all x y =
+      let l = labels_to ts w (own_labels n) (length ts) in
       let m = marks w l n h.now.long in
       record {
         length = m.length;
@@ -81,5 +83,5 @@ module _ {n : ℕ} {α : ℕ → Key} {e : Evidence} {ps : Transfers} {t : Table
         mint = λ r. m.mint r;
         label = l;
         state = λ r k. m.done r k;
-        tells = λ r k q. labels-tell p s h f g c all x y r k q;
+        tells = λ r k q. labels-tell p s h ts (length ts) all x y r k q;
       }

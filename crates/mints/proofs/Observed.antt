@@ -8,6 +8,7 @@ use Prim.Native.Nat.{ℕ, zero, suc, ◌+◌, ◌*◌, ◌/◌, ◌≤◌, ◌<�
 use native.Mathlib.Omega.{arith}
 use lib.Dec.{ltb}
 use lib.ListN.{length, get_or, take, drop, length-take, length-drop}
+use Rattle.std.specs.Prelude.{Some}
 use Rattle.wire.specs.Le.{le}
 use Rattle.ids.specs.Keys.{Key, zero_key, account}
 use Rattle.ids.proofs.Keys.{account-length}
@@ -15,7 +16,7 @@ use Rattle.pack.specs.View.{balances_in}
 use Rattle.pack.proofs.Rows.{balance-row, balances-length}
 use Rattle.token.specs.Records.{both_ends}
 use Rattle.token.specs.declared.Token.{Token}
-use Rattle.token.specs.declared.Token.TheVariants.{Other, Initialise, Plain, Checked, WithFee}
+use Rattle.token.specs.declared.Token.TheVariants.{Initialise, Plain, Checked, WithFee}
 use Rattle.evidence.specs.Table.{Table}
 use Rattle.evidence.specs.Evidence.{note, note_all}
 use Rattle.evidence.specs.Gather.{gather}
@@ -58,9 +59,8 @@ module _ {n : ℕ} {α κ : ℕ → Key} (p : RowsApart n α) (long : (j : ℕ) 
   one-account a x t i h = let r = row-account a i in noted-at p x t h (row_of_account row a i) r.0 (account κ a i) r.1 (account κ a 1) (account-length κ long a 1)
 
   -- a token instruction
-  pub observes : (token : Token) (a : List ℕ) (x : Noted) (t : Table) → Notes n α x t → Notes n α (observed κ row token a x) (note_all t (pieces κ token a))
+  pub observes : (token : Token) (a : List ℕ) (x : Noted) (t : Table) → Notes n α x t → Notes n α (observed κ row token a x) (note_all t (pieces κ (Some token) a))
   unfolding observed pieces both_ends note_all
-  observes Other a x t h = h
   observes Initialise a x t h = one-account a x t 0 h
   observes (Plain k) a x t h = h
   observes (Checked k) a x t h = one-account a (note_account κ row a x 0) (note t (account κ a 0, account κ a 1)) 2 (one-account a x t 0 h)

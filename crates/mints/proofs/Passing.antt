@@ -2,15 +2,17 @@
 -- Assumes nothing.
 use mathlib.Core.Path.{◌≡◌, refl}
 use mathlib.Core.Bool.{Bool, true, false, cond}
+use mathlib.Core.Option.{none, some}
 use mathlib.Core.List.{List}
 use Prim.Native.Nat.{ℕ, zero, suc, ◌+◌, ◌-◌, ◌≤◌, ◌<◌}
 use native.Mathlib.Numerals.{add-one}
 use native.Mathlib.Omega.{arith}
 use lib.Dec.{eqb, ltb}
-use lib.ListN.{get_or}
+use lib.ListN.{length}
 use borrow.Author.Tests.{eq-eqb, ne_eqb, lt-ltb, le-ltb}
 use Rattle.mints.specs.Cells.{state_at}
-use Rattle.mints.specs.Pass.{hand_at, step_at, filled_at, pass_to, passes_from}
+use Rattle.mints.specs.declared.pass.Transfer.{Transfer}
+use Rattle.mints.specs.Pass.{from_at, to_at, hand_at, step_at, filled_at, pass_to, passes_from}
 
 -- a transfer fills in at most one account
 pub one-filled : (t : List ℕ) (a b : ℕ) → filled_at t a b ≤ 1
@@ -46,31 +48,31 @@ module _ (t : List ℕ) (a b : ℕ) where
   unfolding step_at filled_at
   step_both e f = simp (ne_eqb (state_at t a) 0 (λ q. omega arith), ne_eqb (state_at t b) 0 (λ q. omega arith)) (refl, refl)
 
-module _ (f g t : List ℕ) where
-  pub pass-next : (i : ℕ) {u : List ℕ} {k : ℕ} → pass_to f g t i ≡ record { table = u; room = k }
-      → pass_to f g t (i + 1) ≡ record { table = step_at u (get_or f i 0) (get_or g i 0); room = k + filled_at u (get_or f i 0) (get_or g i 0) }
+module _ (ts : List Transfer) (t : List ℕ) where
+  pub pass-next : (i : ℕ) {u : List ℕ} {k : ℕ} → pass_to ts t i ≡ record { table = u; room = k }
+      → pass_to ts t (i + 1) ≡ record { table = step_at u (from_at ts i) (to_at ts i); room = k + filled_at u (from_at ts i) (to_at ts i) }
   unfolding pass_to
   pass-next i e = rw (add-one i, e)
 
-  pub filled-bound : (i : ℕ) → (pass_to f g t i).room ≤ i
+  pub filled-bound : (i : ℕ) → (pass_to ts t i).room ≤ i
   unfolding pass_to
   filled-bound zero = omega arith
-  filled-bound (suc i) = omega (arith, filled-bound i, one-filled (pass_to f g t i).table (get_or f i 0) (get_or g i 0))
+  filled-bound (suc i) = omega (arith, filled-bound i, one-filled (pass_to ts t i).table (from_at ts i) (to_at ts i))
 
-module _ (f g : List ℕ) (n : ℕ) (t : List ℕ) (room p : ℕ) where
-  pub passes-last : p < 512 → (pass_to f g t n).room ≡ 0 → passes_from f g n (512 - p) t room p ≡ record { table = (pass_to f g t n).table; room = room; passes = p + 1 }
+module _ (ts : List Transfer) (t : List ℕ) (room p : ℕ) where
+  pub passes-last : p < 512 → (pass_to ts t (length ts)).room ≡ 0 → passes_from ts (512 - p) t room p ≡ record { table = (pass_to ts t (length ts)).table; room = room; passes = some (p + 1) }
   unfolding passes_from
   passes-last h e =
       let s : 512 - p ≡ suc (512 - (p + 1)) = omega arith in
       rw (s, eq-eqb _ _ e)
 
-  pub passes-next : p < 512 → ((pass_to f g t n).room ≡ 0 → ⊥) → passes_from f g n (512 - (p + 1)) (pass_to f g t n).table (room + (pass_to f g t n).room) (p + 1) ≡ passes_from f g n (512 - p) t room p
+  pub passes-next : p < 512 → ((pass_to ts t (length ts)).room ≡ 0 → ⊥) → passes_from ts (512 - (p + 1)) (pass_to ts t (length ts)).table (room + (pass_to ts t (length ts)).room) (p + 1) ≡ passes_from ts (512 - p) t room p
   unfolding passes_from
   passes-next h e =
       let s : 512 - p ≡ suc (512 - (p + 1)) = omega arith in
       rw (s, ne_eqb _ _ e)
 
-  pub passes_over : 512 ≤ p → passes_from f g n (512 - p) t room p ≡ record { table = t; room = room; passes = 513 }
+  pub passes_over : 512 ≤ p → passes_from ts (512 - p) t room p ≡ record { table = t; room = room; passes = none }
   unfolding passes_from
   passes_over h =
       let s : 512 - p ≡ 0 = omega arith in

@@ -1,13 +1,12 @@
--- When all evidence is noted, the working table holds what is recorded, and the two lists are the plain transfers: balance rows first, then the instructions,
+-- When all evidence is noted, the working table holds what is recorded, and the list has the plain transfers: balance rows first, then the instructions,
 -- as the evidence is put together.
 -- Assumes nothing.
-use mathlib.Core.Path.{◌≡◌, refl, subst}
+use mathlib.Core.Path.{◌≡◌, refl, sym, subst}
 use mathlib.Core.List.{List, []}
-use Prim.Native.Nat.{ℕ, ◌/◌, ◌≤◌}
+use Prim.Native.Nat.{ℕ, ◌/◌, ◌≤◌, ◌<◌}
 use native.Mathlib.Omega.{arith}
 use lib.ListN.{length, take, length-map, length-replicate}
 use lib.Seq.{take_all}
-use Rattle.wire.proofs.Zeros.{zeros-at}
 use Rattle.ids.specs.Keys.{Key, key_count, key_of}
 use Rattle.ids.specs.Which.{program_at}
 use Rattle.pack.specs.Invocation.{Instruction, instruction_at}
@@ -25,7 +24,9 @@ use Rattle.mints.proofs.Begun.{laid-apart, laid-holds}
 use Rattle.mints.proofs.Holding.{RowsApart}
 use Rattle.mints.proofs.Stepped.{pairs_to}
 use Rattle.mints.proofs.Observed.{Notes, balances-noted}
-use Rattle.mints.proofs.Collected.{Collected, instructions, collected}
+use Rattle.mints.specs.declared.pass.Transfer.{Transfer}
+use Rattle.mints.specs.Pass.{no_transfer}
+use Rattle.mints.proofs.Collected.{full-of, Collected, instructions, collected}
 use Rattle.mints.proofs.Preparing.{rows-laid, laid-index}
 
 module _ (ks b p o : List ℕ) (few : key_count ks ≤ 256) (short : length o ≤ 1024) where
@@ -73,10 +74,8 @@ module _ (ks b p o : List ℕ) (few : key_count ks ≤ 256) (short : length o �
       (record {
         notes = balances;
         pairs = refl;
-        sources = λ j. rw (zeros-at 1024 j) apart.some_row;
-        targets = λ j. rw (zeros-at 1024 j) apart.some_row;
-        from_size = length-replicate {A = ℕ} 1024 0;
-        to_size = length-replicate {A = ℕ} 1024 0;
+        ends = λ j. subst (λ (t : Transfer). (t.from < (laid_of ks).rows) × (t.to < (laid_of ks).rows)) (sym (full-of 1024 j no_transfer)) (apart.some_row, apart.some_row);
+        whole = length-replicate 1024 no_transfer;
       })
       (length o)
       (omega arith)

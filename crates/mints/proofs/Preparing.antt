@@ -6,13 +6,15 @@ use Prim.Native.Nat.{ℕ, zero, suc, ◌+◌, ◌*◌, ◌/◌, ◌≤◌, ◌<�
 use native.Mathlib.Nat.{add-zero}
 use native.Mathlib.Omega.{arith}
 use borrow.Author.Tests.{le-ltb}
-use lib.ListN.{length, get_or, take, drop}
+use lib.ListN.{length, get_or, take, drop, replicate}
 use Rattle.wire.specs.Le.{le}
 use Rattle.wire.specs.Zeros.{zeros}
 use Rattle.ids.specs.Keys.{zero_key, key_count, key_of}
 use Rattle.mints.specs.Cells.{account_at, Fits}
 use Rattle.mints.specs.Lay.{KeyRows, laid}
 use Rattle.mints.specs.Note.{note_at, balances_to}
+use Rattle.mints.specs.declared.pass.Transfer.{Transfer}
+use Rattle.mints.specs.Pass.{no_transfer}
 use Rattle.mints.specs.Gather.{Gathered, gather_all}
 use Rattle.mints.specs.Prepare.{laid_of, gathered_of}
 use Rattle.ids.proofs.Keys.{key-length}
@@ -49,12 +51,12 @@ balances-bound s row t zero = omega arith
 balances-bound s row t (suc i) = omega (arith, balances-bound s row t i, one-new (balances_to s row t i).table (get_or row (le 4 s (i * 36)) 0) (take 32 (drop (i * 36 + 4) s)))
 
 -- the rows laid, the balances noted and the instructions gathered on top
-pub gathered-is : (ks b p o : List ℕ) {t r u v f g : List ℕ} {rows recorded room count : ℕ}
+pub gathered-is : (ks b p o : List ℕ) {t r u v : List ℕ} {ts : List Transfer} {rows recorded room count : ℕ}
     → laid_of ks ≡ record { table = t; row = r; rows = rows }
     → balances_to b r t (length b / 36) ≡ record { table = u; room = recorded }
-    → gather_all ks p o r u (zeros 1024) (zeros 1024) ≡ record { noted = record { table = v; room = room }; from = f; to = g; count = count }
-    → gathered_of ks b p o ≡ record { noted = record { table = v; room = recorded + room }; from = f; to = g; count = count }
+    → gather_all ks p o r u (replicate 1024 no_transfer) ≡ record { noted = record { table = v; room = room }; transfers = ts; count = count }
+    → gathered_of ks b p o ≡ record { noted = record { table = v; room = recorded + room }; transfers = ts; count = count }
 unfolding gathered_of
 gathered-is ks b p o {r} {u} {recorded} laid noted gathered =
-    let s : Gathered = record { noted = record { table = u; room = 0 }; from = zeros 1024; to = zeros 1024; count = 0 } in
+    let s : Gathered = record { noted = record { table = u; room = 0 }; transfers = replicate 1024 no_transfer; count = 0 } in
     rw (laid, noted) (rw (gathered, add-zero recorded) at (gather-on-top ks p o r recorded s (length o)))

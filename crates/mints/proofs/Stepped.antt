@@ -8,7 +8,7 @@ use mathlib.Core.List.{List, [], ◌∷◌, ◌++◌}
 use Prim.Native.Nat.{ℕ, zero, suc, ◌+◌, ◌*◌, ◌≤◌, ◌<◌}
 use native.Mathlib.Decide.{ℕ_discrete}
 use native.Mathlib.Omega.{arith}
-use lib.ListN.{length, length-take, length-drop, get_or}
+use lib.ListN.{length, length-take, length-drop}
 use Rattle.wire.proofs.Same.{same-eq}
 use Rattle.ids.specs.Keys.{Key, zero_key, is_zero}
 use Rattle.evidence.specs.Table.{Table, add, lookup}
@@ -18,7 +18,8 @@ use Rattle.evidence.proofs.Lookups.{add-here, add-other, step-zero, step-forth, 
 use Rattle.evidence.proofs.Loops.{pass-append}
 use Rattle.mints.specs.Bytes.{mint_width}
 use Rattle.mints.specs.Cells.{mint_at, state_at, state_says}
-use Rattle.mints.specs.Pass.{hand_at, step_at, filled_at, pass_to}
+use Rattle.mints.specs.declared.pass.Transfer.{Transfer}
+use Rattle.mints.specs.Pass.{from_at, to_at, hand_at, step_at, filled_at, pass_to}
 use Rattle.mints.proofs.Passing as passing
 use Rattle.mints.proofs.Fields.{mint-here, states-here}
 use Rattle.mints.proofs.Holding.{RowsApart, not-zero, HoldsRows, was, Was, changed-mint, update, keep}
@@ -118,17 +119,17 @@ module _ {n : ℕ} {α : ℕ → Key} {r₀ : Table} (p : RowsApart n α) {w : L
       (λ z. from_zero a b z)
       (λ za. by_cases (ℕ_discrete b 0) (λ z. to-zero a b z) (λ zb. by-states a b (omega arith) (omega arith) k l (state_at w a) (state_at w b) refl refl))
 
--- the transfers of the first i row numbers of f and g
-unfoldable pub pairs_to : (ℕ → Key) → List ℕ → List ℕ → ℕ → Transfers
-pairs_to α f g zero = []
-pairs_to α f g (suc i) = pairs_to α f g i ++ ((α (get_or f i 0), α (get_or g i 0)) ∷ [])
+-- the accounts of the first i transfers between rows
+unfoldable pub pairs_to : (ℕ → Key) → List Transfer → ℕ → Transfers
+pairs_to α ts zero = []
+pairs_to α ts (suc i) = pairs_to α ts i ++ ((α (from_at ts i), α (to_at ts i)) ∷ [])
 
 -- a pass over row numbers is a pass over their accounts
-pub passed : {n : ℕ} {α : ℕ → Key} {r₀ : Table} → RowsApart n α → {w : List ℕ} {t : Table} → Held n α r₀ w t → (f g : List ℕ) → ((i : ℕ) → get_or f i 0 < n) → ((i : ℕ) → get_or g i 0 < n) → (i : ℕ)
-    → Held n α r₀ (pass_to f g w i).table (pass t (pairs_to α f g i)) × (length (pass t (pairs_to α f g i)) ≡ length t + (pass_to f g w i).room)
+pub passed : {n : ℕ} {α : ℕ → Key} {r₀ : Table} → RowsApart n α → {w : List ℕ} {t : Table} → Held n α r₀ w t → (ts : List Transfer) → ((i : ℕ) → from_at ts i < n) → ((i : ℕ) → to_at ts i < n) → (i : ℕ)
+    → Held n α r₀ (pass_to ts w i).table (pass t (pairs_to α ts i)) × (length (pass t (pairs_to α ts i)) ≡ length t + (pass_to ts w i).room)
 unfolding pass_to pairs_to pass
-passed p h f g a b zero = (h, omega arith)
-passed {n} {α} {r₀} p {w} {t} h f g a b (suc i) =
-    let x = passed p h f g a b i in
-    let y = stepped p x.0 (get_or f i 0) (get_or g i 0) (a i) (b i) in
-    rw (pass-append t (pairs_to α f g i) ((α (get_or f i 0), α (get_or g i 0)) ∷ [])) (y.0, omega (arith, x.1, y.1))
+passed p h ts a b zero = (h, omega arith)
+passed {n} {α} {r₀} p {w} {t} h ts a b (suc i) =
+    let x = passed p h ts a b i in
+    let y = stepped p x.0 (from_at ts i) (to_at ts i) (a i) (b i) in
+    rw (pass-append t (pairs_to α ts i) ((α (from_at ts i), α (to_at ts i)) ∷ [])) (y.0, omega (arith, x.1, y.1))

@@ -1,19 +1,20 @@
 -- What the calls of `conclude` and `infer` ask, and what they come to: the counts are bounded by what is read, and the table at the end is the one of the
 -- definitions.
 -- Assumes nothing.
-use mathlib.Core.Path.{◌≡◌, refl, ◌∙◌, subst}
-use mathlib.Core.Logic.{◌≢◌}
-use mathlib.Core.Option.{Option, none}
+use mathlib.Core.Path.{◌≡◌, refl, sym, ◌∙◌, subst}
+use mathlib.Core.Option.{Option, none, some, none-ne-some, some-injective}
 use mathlib.Core.List.{List}
 use Prim.Native.Nat.{ℕ, zero, suc, ◌+◌, ◌*◌, ◌/◌, ◌≤◌}
 use native.Mathlib.Omega.{arith}
-use lib.ListN.{length, get_or, length-map}
+use lib.ListN.{length, get_or, take, length-map}
 use Rattle.ids.specs.Keys.{key_count, key_of}
 use Rattle.pack.specs.Invocation.{instruction_at}
 use Rattle.evidence.specs.Evidence.{recorded}
 use Rattle.evidence.specs.MintTable.{MintAnswer}
-use Rattle.mints.specs.declared.Inferred.TheVariants.{Made}
-use Rattle.mints.specs.Cells.{Fits, Within}
+use Rattle.std.specs.Prelude.{Ok}
+use Rattle.mints.specs.declared.pass.Transfer.{Transfer}
+use Rattle.mints.specs.Pass.{EndsWithin, Ran}
+use Rattle.mints.specs.Cells.{Fits}
 use Rattle.mints.specs.Gather.{token_at, Gathered, gather_at, gather_to}
 use Rattle.mints.specs.Prepare.{laid_of, begun, gathered_of}
 use Rattle.mints.specs.Doubt.{handed_on}
@@ -21,8 +22,8 @@ use Rattle.mints.specs.Conclude.{Concluded, concluded}
 use Rattle.mints.specs.Order.{sort_to, rows_bytes, mints_to}
 use Rattle.mints.specs.Inference.{inferred, inferred_in, answer_of, mint_bytes, final_of}
 use Rattle.mints.proofs.Written.{cell, cells-bytes}
-use Rattle.mints.proofs.Collected.{Collected, count-bound}
-use Rattle.mints.proofs.Gathering.{two-more}
+use Rattle.mints.proofs.Collected.{Collected, count-bound, taken-within}
+use Rattle.mints.proofs.Gathering.{two-at-most}
 use Rattle.mints.specs.Bytes.{mint_width}
 use Rattle.mints.proofs.Preparing.{rows-laid, laid-index, laid-fits, balances-bound}
 use Rattle.mints.proofs.Prepared.{evidence_in, transfers_in, accounts, apart, prepared}
@@ -33,7 +34,7 @@ room_bound : (ks p o row : List ℕ) (g : Gathered) (i : ℕ) → (gather_to ks 
 unfolding gather_to gather_at
 room_bound ks p o row g zero = omega arith
 room_bound ks p o row g (suc i) =
-    omega (arith, room_bound ks p o row g i, two-more (key_of ks) row (token_at ks p (get_or o i 0)) (instruction_at p (get_or o i 0)).accounts (gather_to ks p o row g i).noted)
+    omega (arith, room_bound ks p o row g i, two-at-most (key_of ks) row (token_at ks p (get_or o i 0)) (instruction_at p (get_or o i 0)).accounts (gather_to ks p o row g i))
 
 all-counted : (ks b p o : List ℕ) → (gathered_of ks b p o).count ≤ length o
 unfolding gathered_of
@@ -43,23 +44,20 @@ all_noted : (ks b p o : List ℕ) → (gathered_of ks b p o).noted.room ≤ leng
 unfolding gathered_of
 all_noted ks b p o = omega (arith, room_bound ks p o (laid_of ks).row (begun ks b) (length o), balances-bound b (laid_of ks).row (laid_of ks).table (length b / 36))
 
-module _ (ks b p o : List ℕ) (few : key_count ks ≤ 256) (short : length o ≤ 1024) {t f g : List ℕ} {room count : ℕ} (e : gathered_of ks b p o ≡ record { noted = record { table = t; room = room }; from = f; to = g; count = count }) where
-  state : Collected (laid_of ks).rows (accounts ks b p o few short) 1024 (record { noted = record { table = t; room = room }; from = f; to = g; count = count }) (recorded (evidence_in ks b p o few short)) (transfers_in ks b p o few short)
+module _ (ks b p o : List ℕ) (few : key_count ks ≤ 256) (short : length o ≤ 1024) {t : List ℕ} {ts : List Transfer} {room count : ℕ} (e : gathered_of ks b p o ≡ record { noted = record { table = t; room = room }; transfers = ts; count = count }) where
+  state : Collected (laid_of ks).rows (accounts ks b p o few short) 1024 (record { noted = record { table = t; room = room }; transfers = ts; count = count }) (recorded (evidence_in ks b p o few short)) (transfers_in ks b p o few short)
   state = subst (λ (x : Gathered). Collected (laid_of ks).rows (accounts ks b p o few short) 1024 x (recorded (evidence_in ks b p o few short)) (transfers_in ks b p o few short)) e (prepared ks b p o few short)
 
-  pub sources-within : Within (laid_of ks).rows f
-  sources-within i = state.sources i
-
-  pub targets-within : Within (laid_of ks).rows g
-  targets-within i = state.targets i
+  pub transfers-within : EndsWithin (laid_of ks).rows (take count ts)
+  transfers-within = taken-within (laid_of ks).rows ts count (apart ks b p o few short).some_row state.ends
 
   pub rows_long : (laid_of ks).rows * mint_width ≤ length t
   rows_long = state.notes.holds.long
 
-  pub counted : (count ≤ 1024) × (count ≤ length f) × (count ≤ length g)
+  pub counted : (count ≤ 1024) × (count ≤ length ts)
   counted =
       let c : count ≤ length o = subst (λ (x : Gathered). x.count ≤ length o) e (all-counted ks b p o) in
-      (omega arith, omega (arith, state.from_size), omega (arith, state.to_size))
+      (omega arith, omega (arith, state.whole))
 
   pub noted-few : length b ≤ 9223372036854775808 → room ≤ 1152921504606846976
   noted-few h =
@@ -67,9 +65,9 @@ module _ (ks b p o : List ℕ) (few : key_count ks ≤ 256) (short : length o �
       omega arith
 
   -- and what handing on comes to
-  pub concluded-is : {v r : List ℕ} {table : List ℕ} {rows final passed : ℕ} → laid_of ks ≡ record { table = v; row = r; rows = rows }
-      → handed_on f g count t rows room ≡ record { table = table; room = final; passes = passed }
-      → concluded ks b p o ≡ record { table = table; row = r; rows = rows; room = final; passes = passed }
+  pub concluded-is : {v r : List ℕ} {rows : ℕ} {x : Ran} → laid_of ks ≡ record { table = v; row = r; rows = rows }
+      → handed_on (take count ts) t rows room ≡ x
+      → concluded ks b p o ≡ record { table = x.table; row = r; rows = rows; room = x.room; passes = x.passes }
   unfolding concluded
   concluded-is l h = rw (e, l, h)
 
@@ -84,38 +82,41 @@ module _ (ks b p o : List ℕ) (few : key_count ks ≤ 256) where
   concluded-fits t w = laid-fits ks few t w
 
 module _ (ks b p o : List ℕ) (few : key_count ks ≤ 256) (short : length o ≤ 1024) where
+  few_listed : (gathered_of ks b p o).count ≤ 1024
+  few_listed = omega (arith, all-counted ks b p o)
+
   abbrev ways : Option MintAnswer → Type 0
-  ways = Right (apart ks b p o few short) (evidence_in ks b p o few short) (transfers_in ks b p o few short) (gathered_of ks b p o) (prepared ks b p o few short)
+  ways = Right (apart ks b p o few short) (evidence_in ks b p o few short) (transfers_in ks b p o few short) (gathered_of ks b p o) (prepared ks b p o few short) few_listed
 
   found : ways (inferred_in ks b p o)
   unfolding inferred evidence_in transfers_in
-  found = right (apart ks b p o few short) (evidence_in ks b p o few short) (transfers_in ks b p o few short) (gathered_of ks b p o) (prepared ks b p o few short)
+  found = right (apart ks b p o few short) (evidence_in ks b p o few short) (transfers_in ks b p o few short) (gathered_of ks b p o) (prepared ks b p o few short) few_listed
 
   -- the passes are too many
-  pub none_right : (concluded ks b p o).passes ≡ 513 → inferred_in ks b p o ≡ none
+  pub none_right : (concluded ks b p o).passes ≡ none → inferred_in ks b p o ≡ none
   unfolding concluded handed_on
   none_right q = go found
     where
       go : {y : Option MintAnswer} → ways y → y ≡ none
       go (too_many z) = refl
-      go (made n r m k l) = absurd (n q)
+      go (made r m k l) = absurd (none-ne-some _ (sym q ∙ k))
 
   -- the mint table
-  pub record TablesConcluded (w : Concluded) (x : Option MintAnswer) : Type 0 where
-    pub answer : Made w.room (length (sort_to w.table w.rows)) w.passes ≡ answer_of x
+  pub record TablesConcluded (w : Concluded) (passes : ℕ) (x : Option MintAnswer) : Type 0 where
+    pub answer : Ok (record { room = w.room; rows = length (sort_to w.table w.rows); passes = passes }) ≡ answer_of x
     pub rows : rows_bytes w.table (sort_to w.table w.rows) ≡ mint_bytes x
     pub final : mints_to w.table w.row (key_count ks) ≡ final_of x (key_of ks) (key_count ks)
 
-  pub some_right : (concluded ks b p o).passes ≢ 513 → TablesConcluded (concluded ks b p o) (inferred_in ks b p o)
+  pub some_right : {passes : ℕ} → (concluded ks b p o).passes ≡ some passes → TablesConcluded (concluded ks b p o) passes (inferred_in ks b p o)
   unfolding concluded handed_on answer_of mint_bytes final_of
-  some_right q = go found
+  some_right {passes} q = go found
     where
-      go : {y : Option MintAnswer} → ways y → TablesConcluded (concluded ks b p o) y
-      go (too_many z) = absurd (q z)
-      go (made n r m k l) =
+      go : {y : Option MintAnswer} → ways y → TablesConcluded (concluded ks b p o) passes y
+      go (too_many z) = absurd (none-ne-some _ (sym z ∙ q))
+      go (made r m k l) =
           let v = (concluded ks b p o).table in
           record {
-            answer = rw (m, k, r, length-map (sort_to v (laid_of ks).rows) (cell v));
+            answer = rw (m, some-injective _ _ (sym q ∙ k), r, length-map (sort_to v (laid_of ks).rows) (cell v));
             rows = cells-bytes v (sort_to v (laid_of ks).rows) ∙ rw r;
             final = l (laid_of ks).row (key_of ks) (key_count ks) (λ j. laid-index ks few j);
           }

@@ -1,6 +1,7 @@
 -- The working table when evidence is noted, mints are handed on and marks are set.
 -- Assumes nothing.
-use Rattle.std.specs.Prelude.{ℕ, List}
+use Rattle.std.specs.Prelude.{ℕ, List, take}
+use Rattle.std.proofs.Math.Option.{Option}
 use Rattle.mints.specs.Doubt.{handed_on}
 use Rattle.mints.specs.Prepare.{laid_of, gathered_of}
 
@@ -13,12 +14,12 @@ pub record Concluded : Type 0 where
   pub rows : ℕ
   -- the accounts that need room
   pub room : ℕ
-  -- the passes, 513 where 512 are too few
-  pub passes : ℕ
+  -- the passes, none where 512 are too few
+  pub passes : Option ℕ
 
 -- of a key section, a balance section, and a pack with the offsets of its instructions
 unfoldable pub concluded : List ℕ → List ℕ → List ℕ → List ℕ → Concluded
 concluded ks b p o =
     let g = gathered_of ks b p o in
-    let x = handed_on g.from g.to g.count g.noted.table (laid_of ks).rows g.noted.room in
+    let x = handed_on (take g.count g.transfers) g.noted.table (laid_of ks).rows g.noted.room in
     record { table = x.table; row = (laid_of ks).row; rows = (laid_of ks).rows; room = x.room; passes = x.passes }

@@ -1,11 +1,12 @@
 -- Which filled-in rows are in doubt, by labels: rows that transfers between filled-in rows join bear one label, and label 0 tells doubt. Row 0 is the zero key's
 -- and never filled in, so that no row is in doubt at first.
 -- Assumes nothing.
-use Rattle.std.specs.Prelude.{ℕ, zero, suc, Bool, false, cond, not, List, map, eqb, ltb, get_or}
+use Rattle.std.specs.Prelude.{ℕ, zero, suc, Bool, false, cond, not, List, map, eqb, ltb, length, get_or}
 use Rattle.wire.specs.Same.{same}
 use Rattle.wire.specs.Tab.{tab}
 use Rattle.mints.specs.Cells.{mint_at, state_at, with_state}
-use Rattle.mints.specs.Pass.{Ran, passes}
+use Rattle.mints.specs.Pass.{Ran, from_at, to_at, passes}
+use Rattle.mints.specs.declared.pass.Transfer.{Transfer}
 
 -- whether both rows have a mint, and different ones
 unfoldable pub differ_at : List ℕ → ℕ → ℕ → Bool
@@ -34,10 +35,10 @@ suspect_at t l r = cond (eqb (state_at t r) 3) (relabelled (get_or l r 0) 0 l) l
 unfoldable pub meet_at : List ℕ → List ℕ → ℕ → ℕ → List ℕ
 meet_at t l a b = cond (differ_at t a b) (suspect_at t (suspect_at t l a) b) (cond (eqb (state_at t a) 3) (cond (eqb (state_at t b) 3) (join_at l a b) l) l)
 
--- the labels after the first i transfers, from rows f to rows g
-unfoldable pub labels_to : List ℕ → List ℕ → List ℕ → List ℕ → ℕ → List ℕ
-labels_to f g t l zero = l
-labels_to f g t l (suc i) = meet_at t (labels_to f g t l i) (get_or f i 0) (get_or g i 0)
+-- the labels after the first i transfers
+unfoldable pub labels_to : List Transfer → List ℕ → List ℕ → ℕ → List ℕ
+labels_to ts t l zero = l
+labels_to ts t l (suc i) = meet_at t (labels_to ts t l i) (from_at ts i) (to_at ts i)
 
 -- a filled-in row is marked
 unfoldable pub doubt_at : List ℕ → ℕ → List ℕ
@@ -48,12 +49,12 @@ unfoldable pub marks_to : List ℕ → List ℕ → ℕ → List ℕ
 marks_to t l zero = t
 marks_to t l (suc r) = let u = marks_to t l r in cond (eqb (get_or l r 0) 0) (doubt_at u r) u
 
--- n rows marked by c transfers
-abbrev pub doubts_of : List ℕ → List ℕ → ℕ → List ℕ → ℕ → List ℕ
-doubts_of f g c t n = marks_to t (labels_to f g t (own_labels n) c) n
+-- n rows marked by transfers
+abbrev pub doubts_of : List Transfer → List ℕ → ℕ → List ℕ
+doubts_of ts t n = marks_to t (labels_to ts t (own_labels n) (length ts)) n
 
--- the passes over c transfers, and then the marks of n rows
-unfoldable pub handed_on : List ℕ → List ℕ → ℕ → List ℕ → ℕ → ℕ → Ran
-handed_on f g c t n room =
-    let x = passes f g c t room in
-    record { table = doubts_of f g c x.table n; room = x.room; passes = x.passes }
+-- the passes over transfers, and then the marks of n rows
+unfoldable pub handed_on : List Transfer → List ℕ → ℕ → ℕ → Ran
+handed_on ts t n room =
+    let x = passes ts t room in
+    record { table = doubts_of ts x.table n; room = x.room; passes = x.passes }

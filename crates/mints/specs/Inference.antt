@@ -1,6 +1,6 @@
 -- The mint table of balance rows and instructions: κ gives the key of an index, ι the program.
 -- Assumes nothing.
-use Rattle.std.specs.Prelude.{ℕ, List, [], ◌∷◌, ◌++◌, map, length, take}
+use Rattle.std.specs.Prelude.{ℕ, List, [], ◌∷◌, ◌++◌, map, length, take, Result, Ok, Err}
 use Rattle.std.proofs.Math.Option.{Option, none, some}
 use Rattle.ids.specs.declared.Id.{Id}
 use Rattle.ids.specs.Keys.{Key, key_of, key_count}
@@ -14,8 +14,8 @@ use Rattle.evidence.specs.Passes.{Transfers}
 use Rattle.evidence.specs.Gather.{gather}
 use Rattle.evidence.specs.MintTable.{MintAnswer, mints}
 use Rattle.mints.specs.Bytes.{table_bytes, mints_of}
-use Rattle.mints.specs.declared.Inferred.{Inferred}
-use Rattle.mints.specs.declared.Inferred.TheVariants.{Made, TooManyPasses}
+use Rattle.mints.specs.declared.Made.{Made}
+use Rattle.mints.specs.declared.TooManyPasses.{TooManyPasses}
 
 -- what a balance row says
 unfoldable pub balance_says : (ℕ → Key) → (ℕ × Key) → List Row
@@ -49,9 +49,9 @@ abbrev pub inferred_of : List ℕ → List ℕ → List ℕ → List ℕ → Opt
 inferred_of ks b p offsets = inferred_in (take 8448 ks) b p (take 1024 offsets)
 
 -- what is answered: the room that table 0 needs, its rows, and the passes
-unfoldable pub answer_of : Option MintAnswer → Inferred
-answer_of none = TooManyPasses
-answer_of (some x) = Made x.room (length x.rows) x.passes
+unfoldable pub answer_of : Option MintAnswer → Result Made TooManyPasses
+answer_of none = Err (record {})
+answer_of (some x) = Ok (record { room = x.room; rows = length x.rows; passes = x.passes })
 
 -- the bytes of table 0
 unfoldable pub mint_bytes : Option MintAnswer → List ℕ

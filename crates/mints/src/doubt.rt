@@ -2,13 +2,14 @@
 //
 // Chains that reach a filled-in account reach every other that transfers between filled-in accounts join to it, so these are in doubt together. They bear one
 // label; label 0 tells doubt. One walk over the transfers sets the labels, and one over the rows the marks.
-ghost use Rattle.std.specs.Prelude.{◌≡◌, ◌+◌, ◌*◌, ◌≤◌, ◌<◌, length};
+ghost use Rattle.std.specs.Prelude.{◌≡◌, ◌+◌, ◌*◌, ◌≤◌, ◌<◌, length, MatchResult};
+ghost use Rattle.std.proofs.Math.Option.{none, some};
 ghost use Rattle.mints.specs.Bytes.{mint_width};
-ghost use Rattle.mints.specs.Cells.{Within};
+ghost use Rattle.mints.specs.Pass.{EndsWithin};
 ghost use Rattle.mints.specs.Doubt.{differ_at, own_labels, renamed, relabelled, join_at, suspect_at, meet_at, labels_to, doubt_at, marks_to, doubts_of, handed_on};
 
-use crate::pass::Ran;
-use crate::{WIDTH, pass};
+use crate::pass::{Ran, Transfer};
+use crate::{TooManyPasses, WIDTH, pass};
 
 // Whether both rows have a mint, and different ones.
 fn differ(table: &[u8], a: usize, b: usize) -> bool
@@ -31,10 +32,8 @@ fn label_apart(label: &mut [u32])
     requires { length label.old ≤ 65536 }
     ensures { label.new ≡ own_labels (length label.old) }
 {
-    let mut r = 0;
-    while r < label.len() {
+    for r in 0..label.len() {
         label[r] = r as u32;
-        r += 1;
     }
 }
 
@@ -52,10 +51,8 @@ fn relabel(label: &mut [u32], x: u32, y: u32)
     if x == y {
         return;
     }
-    let mut r = 0;
-    while r < label.len() {
-        label[r] = rename(label[r], x, y);
-        r += 1;
+    for z in label.iter_mut() {
+        *z = rename(*z, x, y);
     }
 }
 
@@ -104,16 +101,13 @@ fn meet(table: &[u8], label: &mut [u32], a: usize, b: usize)
     join(label, a, b);
 }
 
-// Sets the labels by the n transfers.
-fn meet_all(table: &[u8], label: &mut [u32], from: &[u32], to: &[u32], n: usize)
-    requires n_in_bounds { (n ≤ length from.now) × (n ≤ length to.now) × Within (length label.old) from.now × Within (length label.old) to.now }
-    requires mint_width_in_bounds { length label.old * mint_width ≤ length table.now }
-    ensures { label.new ≡ labels_to from.now to.now table.now label.old n }
+// Sets the labels by the transfers.
+fn meet_all(table: &[u8], label: &mut [u32], transfers: &[Transfer])
+    requires { EndsWithin (length label.old) transfers.now × (length label.old * mint_width ≤ length table.now) }
+    ensures { label.new ≡ labels_to transfers.now table.now label.old (length transfers.now) }
 {
-    let mut i = 0;
-    while i < n {
-        meet(table, label, from[i] as usize, to[i] as usize);
-        i += 1;
+    for transfer in transfers {
+        meet(table, label, transfer.from as usize, transfer.to as usize);
     }
 }
 
@@ -132,44 +126,38 @@ fn mark(table: &mut [u8], label: &[u32])
     requires { length label.now * mint_width ≤ length table.old }
     ensures { table.new ≡ marks_to table.old label.now (length label.now) }
 {
-    let mut next = 0;
-    while next < label.len() {
-        let r = next;
-        next += 1;
-        if label[r] != 0 {
-            continue;
+    for r in 0..label.len() {
+        if label[r] == 0 {
+            doubt(table, r);
         }
-        doubt(table, r);
     }
 }
 
-// Marks the rows that the n transfers put in doubt; whatever `label` holds, it has their labels then.
-fn doubts_with(table: &mut [u8], label: &mut [u32], from: &[u32], to: &[u32], n: usize)
-    requires n_in_bounds { (n ≤ length from.now) × (n ≤ length to.now) × Within (length label.old) from.now × Within (length label.old) to.now }
-    requires mint_width_in_bounds { (length label.old * mint_width ≤ length table.old) × (length label.old ≤ 65536) }
-    ensures { table.new ≡ doubts_of from.now to.now n table.old (length label.old) }
+// Marks the rows that the transfers put in doubt; whatever `label` holds, it has their labels then.
+fn doubts_with(table: &mut [u8], label: &mut [u32], transfers: &[Transfer])
+    requires { EndsWithin (length label.old) transfers.now × (length label.old * mint_width ≤ length table.old) × (length label.old ≤ 65536) }
+    ensures { table.new ≡ doubts_of transfers.now table.old (length label.old) }
 {
     label_apart(label);
-    meet_all(table, label, from, to, n);
+    meet_all(table, label, transfers);
     mark(table, label);
 }
 
-// The passes, and then the marks of the rows, which count only where the passes are not too many.
+// The passes, and then the marks of the rows, where the passes are not too many.
 pub(crate) fn hand_on(
     table: &mut [u8],
     rows: usize,
-    from: &[u32],
-    to: &[u32],
-    n: usize,
+    transfers: &[Transfer],
     recorded: usize,
-) -> Ran
-    requires n_bound { (n ≤ 1024) × (recorded ≤ 1152921504606846976) × (rows ≤ 257) × (rows * mint_width ≤ length table.old) }
-    requires n_in_bounds { (n ≤ length from.now) × (n ≤ length to.now) × Within rows from.now × Within rows to.now }
-    ensures { handed_on from.now to.now n table.entry.now rows recorded
-        ≡ record { table = table.exit.now; room = result.room; passes = result.passes } }
+) -> Result<Ran, TooManyPasses>
+    requires bounds { (length transfers.now ≤ 1024) × (recorded ≤ 1152921504606846976) × (rows ≤ 257) }
+    requires rows_in_bounds { (rows * mint_width ≤ length table.old) × EndsWithin rows transfers.now }
+    ensures { MatchResult result
+        (λ ran. handed_on transfers.now table.entry.now rows recorded ≡ record { table = table.exit.now; room = ran.room; passes = some ran.passes })
+        (λ _. (handed_on transfers.now table.entry.now rows recorded).passes ≡ none) }
 {
-    let ran = pass::run(table, from, to, n, recorded);
+    let ran = pass::run(table, transfers, recorded)?;
     let mut label = [0u32; 257];
-    doubts_with(table, &mut label[0..rows], from, to, n);
-    ran
+    doubts_with(table, &mut label[..rows], transfers);
+    Ok(ran)
 }

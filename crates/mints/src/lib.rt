@@ -1,11 +1,12 @@
 // Mints: which mint each account holds, from what is recorded and what plain transfers hand on.
 //
 // `infer` answers how many rows table 0 needs and has, and after how many passes; it leaves these rows, ascending by account, and the final mint of each
-// key index, and the number of each invocation's program. Each key is searched once, in a linear table; evidence, passes, marks and lookups go by row numbers.
+// key index, and each invocation's program. Each key is searched once, in a linear table; evidence, passes, marks and lookups go by row numbers.
 #![tactic(auto)]
 
-ghost use Rattle.std.specs.Prelude.{◌≡◌, ◌*◌, ◌≤◌, length, take};
+ghost use Rattle.std.specs.Prelude.{◌≡◌, ◌*◌, ◌≤◌, length, take, MatchResult};
 ghost use Rattle.std.proofs.lemmas.List.Edits.{sets};
+ghost use Rattle.std.proofs.Math.Option.{none, some};
 ghost use Rattle.wire.specs.Zeros.{zeros};
 ghost use Rattle.mints.specs.Bytes.{mint_width};
 ghost use Rattle.mints.specs.Cells.{Fits};
@@ -20,15 +21,23 @@ mod order;
 mod pass;
 mod table;
 
+use ids::Id;
+use pass::Transfer;
+
 // The bytes of a row of table 0, and of the working table, whose rows have a state in the place of the mark.
 pub const WIDTH: usize = 65;
 
-// The room that table 0 needs, its rows, and the passes; or that the passes are too many.
+// The room that table 0 needs, its rows, and the passes.
 #[derive(Clone, Copy)]
-pub enum Inferred {
-    Made(usize, usize, usize),
-    TooManyPasses,
+pub struct Made {
+    pub room: usize,
+    pub rows: usize,
+    pub passes: usize,
 }
+
+// 512 passes are too few.
+#[derive(Clone, Copy)]
+pub struct TooManyPasses;
 
 // The rows of the keys, the accounts that need room, and the passes.
 #[derive(Clone, Copy)]
@@ -39,7 +48,7 @@ struct Concluded {
 }
 
 // Lays the rows of the keys, notes all evidence in them, hands mints on along the plain transfers, and marks those that the transfers put in doubt; keeps
-// the numbers of the programs.
+// the programs.
 fn conclude(
     keys: &[u8],
     balances: &[u8],
@@ -47,24 +56,24 @@ fn conclude(
     at: &[u32],
     table: &mut [u8],
     row: &mut [u32],
-    programs: &mut [u8; 1024],
-) -> Concluded
+    programs: &mut [Id; 1024],
+) -> Result<Concluded, TooManyPasses>
     requires { (length keys.now ≤ 8448) × (length at.now ≤ 1024) × (table.old ≡ zeros (257 * mint_width)) × (row.old ≡ zeros 256) }
-    ensures at_value { concluded keys.now balances.now pack.now at.now
-        ≡ record { table = table.exit.now; row = row.new; rows = result.rows; room = result.room; passes = result.passes } }
+    ensures value { MatchResult result
+        (λ x. concluded keys.now balances.now pack.now at.now ≡ record { table = table.exit.now; row = row.new; rows = x.rows; room = x.room; passes = some x.passes })
+        (λ _. (concluded keys.now balances.now pack.now at.now).passes ≡ none) }
     ensures programs_after { programs.new ≡ sets programs.old 0 (programs_of keys.now pack.now at.now) }
 {
     let rows = table::lay(keys, table, row);
     let recorded = notes::note_balances(balances, row, table);
-    let mut from = [0u32; 1024];
-    let mut to = [0u32; 1024];
-    let g = notes::gather(keys, pack, at, row, table, &mut from, &mut to, programs);
-    let ran = doubt::hand_on(table, rows, &from, &to, g.count, recorded + g.room);
-    Concluded {
+    let mut transfers = [Transfer::NONE; 1024];
+    let g = notes::gather(keys, pack, at, row, table, &mut transfers, programs);
+    let ran = doubt::hand_on(table, rows, &transfers[..g.count], recorded + g.room)?;
+    Ok(Concluded {
         rows,
         room: ran.room,
         passes: ran.passes,
-    }
+    })
 }
 
 // Writes the rows with a mint, ascending, and the mints of the first n key indexes; answers how many rows.
@@ -93,22 +102,17 @@ fn publish(
 fn first_keys(keys: &[u8]) -> &[u8]
     ensures { result.now ≡ take 8448 keys.now }
 {
-    if 8448 < keys.len() {
-        &keys[0..8448]
-    } else {
-        keys
-    }
+    &keys[..keys.len().min(8448)]
 }
 
 // The first 1,024 offsets.
 fn first_offsets(at: &[u32]) -> &[u32]
     ensures { result.now ≡ take 1024 at.now }
 {
-    if 1024 < at.len() { &at[0..1024] } else { at }
+    &at[..at.len().min(1024)]
 }
 
-// The mint table: its rows into `rows`, and the final mint of each key index, 32 bytes, into `known`; the number of each invocation's program into
-// `programs`.
+// The mint table: its rows into `rows`, and the final mint of each key index, 32 bytes, into `known`; each invocation's program into `programs`.
 //
 // `at` are the offsets of the invocations' instructions in the pack. Of the keys the first 256 count, of the invocations the first 1,024.
 pub fn infer(
@@ -118,8 +122,8 @@ pub fn infer(
     at: &[u32],
     rows: &mut [u8],
     known: &mut [u8; 8192],
-    programs: &mut [u8; 1024],
-) -> Inferred
+    programs: &mut [Id; 1024],
+) -> Result<Made, TooManyPasses>
     ensures value { result ≡ answer_of (inferred_of keys.now balances.now pack.now at.now) }
     ensures rows_after { rows.new
         ≡ sets rows.old 0 (mint_bytes (inferred_of keys.now balances.now pack.now at.now)) }
@@ -133,10 +137,11 @@ pub fn infer(
     let at = first_offsets(at);
     let mut table = [0u8; 257 * WIDTH];
     let mut row = [0u32; 256];
-    let done = conclude(keys, balances, pack, at, &mut table, &mut row, programs);
-    if done.passes == 513 {
-        return Inferred::TooManyPasses;
-    }
+    let done = conclude(keys, balances, pack, at, &mut table, &mut row, programs)?;
     let k = publish(&table, done.rows, &row, ids::key_count(keys), rows, known);
-    Inferred::Made(done.room, k, done.passes)
+    Ok(Made {
+        room: done.room,
+        rows: k,
+        passes: done.passes,
+    })
 }

@@ -5,11 +5,13 @@ ghost use Rattle.wire.specs.Same.{same};
 ghost use Rattle.ids.specs.Keys.{zero_key, key_at, key_count, key_of};
 ghost use Rattle.mints.specs.Bytes.{mint_width};
 ghost use Rattle.mints.specs.Cells.{Fits};
-ghost use Rattle.mints.specs.Gather.{row_of_account, note_account, observed, is_plain, gather_all};
+ghost use Rattle.mints.specs.Gather.{row_of_account, note_account, observed, is_plain, transfer_of, gather_all};
 ghost use Rattle.mints.specs.Note.{record_at, new_at, balances_to};
 ghost use Rattle.mints.specs.Programs.{programs_of};
 
 use crate::WIDTH;
+use crate::pass::Transfer;
+use ids::Id;
 use token::Token;
 
 // The row of a key index: row 0, the zero key's, past the keys.
@@ -67,12 +69,10 @@ pub(crate) fn note_balances(balances: &[u8], row: &[u32], table: &mut [u8]) -> u
         ≡ record { table = table.exit.now; room = result } }
 {
     let mut room = 0;
-    let mut i = 0;
-    while i < balances.len() / 36 {
+    for i in 0..balances.len() / 36 {
         let at = i * 36;
         let r = row_of(row, wire::u32_at(balances, at) as usize);
         room += note(table, r, &balances[at + 4..at + 36]);
-        i += 1;
     }
     room
 }
@@ -132,53 +132,49 @@ fn observe(
         ≡ record { table = table.exit.now; room = result } }
 {
     match token {
-        Token::Other => room,
         Token::Initialise => note_account(keys, accounts, row, table, room, 0),
         Token::Plain(_) => room,
-        Token::Checked(_) => {
-            let n = note_account(keys, accounts, row, table, room, 0);
-            note_account(keys, accounts, row, table, n, 2)
-        }
-        Token::WithFee(_, _) => {
+        Token::Checked(_) | Token::WithFee(_, _) => {
             let n = note_account(keys, accounts, row, table, room, 0);
             note_account(keys, accounts, row, table, n, 2)
         }
     }
 }
 
+#[tactic(auto, unfolding(crate::specs::Gather::is_plain))]
 fn is_plain(token: Token) -> bool
     ensures { result ≡ is_plain token }
 {
-    match token {
-        Token::Plain(_) => true,
-        Token::Other => false,
-        Token::Initialise => false,
-        Token::Checked(_) => false,
-        Token::WithFee(_, _) => false,
+    matches!(token, Token::Plain(_))
+}
+
+// A plain transfer as the rows of its source and destination.
+fn transfer(accounts: &[u8], row: &[u32]) -> Transfer
+    ensures { result ≡ transfer_of row.now accounts.now }
+{
+    Transfer {
+        from: account_row(row, accounts, 0) as u32,
+        to: account_row(row, accounts, 1) as u32,
     }
 }
 
-// Adds the rows of a plain transfer's source and destination to the lists; answers how many transfers they have then.
+// Adds a plain transfer to the list; answers how many it has then.
 fn list(
     token: Token,
     accounts: &[u8],
     row: &[u32],
-    from: &mut [u32],
-    to: &mut [u32],
+    transfers: &mut [Transfer],
     count: usize,
 ) -> usize
-    requires { (count < length from.old) × (count < length to.old) }
+    requires { count < length transfers.old }
     ensures value { result ≡ cond (is_plain token) (suc count) count }
-    ensures from_after { from.new
-        ≡ cond (is_plain token) (set from.old count (row_of_account row.now accounts.now 0)) from.old }
-    ensures to_after { to.new
-        ≡ cond (is_plain token) (set to.old count (row_of_account row.now accounts.now 1)) to.old }
+    ensures transfers_after { transfers.new
+        ≡ cond (is_plain token) (set transfers.old count (transfer_of row.now accounts.now)) transfers.old }
 {
     if !is_plain(token) {
         return count;
     }
-    from[count] = account_row(row, accounts, 0) as u32;
-    to[count] = account_row(row, accounts, 1) as u32;
+    transfers[count] = transfer(accounts, row);
     count + 1
 }
 
@@ -189,43 +185,40 @@ pub struct Gathered {
     pub count: usize,
 }
 
-// Records the evidence of the instructions at the offsets, and lists the rows of their plain transfers' sources and destinations; keeps the numbers of
-// their programs.
+// Records the evidence of the instructions at the offsets, and lists their plain transfers; keeps their programs.
 pub(crate) fn gather(
     keys: &[u8],
     pack: &[u8],
     at: &[u32],
     row: &[u32],
     table: &mut [u8],
-    from: &mut [u32],
-    to: &mut [u32],
-    programs: &mut [u8; 1024],
+    transfers: &mut [Transfer],
+    programs: &mut [Id; 1024],
 ) -> Gathered
-    requires at_in_bounds { (length at.now ≤ length from.old) × (length at.now ≤ length to.old) × (length at.now ≤ 1024) }
+    requires at_in_bounds { (length at.now ≤ length transfers.old) × (length at.now ≤ 1024) }
     requires fits { Fits table.old row.now × (key_count keys.now ≤ 256) }
-    ensures to_value { gather_all keys.now pack.now at.now row.now table.entry.now from.old to.old
-        ≡ record { noted = record { table = table.exit.now; room = result.room }; from = from.new; to = to.new; count = result.count } }
+    ensures to_value { gather_all keys.now pack.now at.now row.now table.entry.now transfers.old
+        ≡ record { noted = record { table = table.exit.now; room = result.room }; transfers = transfers.new; count = result.count } }
     ensures programs_after { programs.new ≡ sets programs.old 0 (programs_of keys.now pack.now at.now) }
 {
-    let mut numbers = [0u8; 256];
-    ids::programs::fill(keys, &mut numbers);
+    let mut kept = [Id::Unresolved; 256];
+    ids::programs::fill(keys, &mut kept);
     let mut room = 0;
     let mut count = 0;
-    let mut i = 0;
-    while i < at.len() {
+    for i in 0..at.len() {
         let o = at[i] as usize;
-        let number = ids::programs::number(&numbers, pack::program(pack, o) as usize);
-        programs[i] = number;
-        i += 1;
-        let id = ids::of_number(number);
+        let id = ids::programs::program(&kept, pack::program(pack, o) as usize);
+        programs[i] = id;
         // Nothing more is read of other programs.
         if !token::token_program(id) {
             continue;
         }
         let accounts = pack::accounts(pack, o);
-        let token = token::parse(id, accounts.len(), pack::data(pack, o));
+        let Some(token) = token::parse(id, accounts.len(), pack::data(pack, o)) else {
+            continue;
+        };
         room = observe(token, keys, accounts, row, table, room);
-        count = list(token, accounts, row, from, to, count);
+        count = list(token, accounts, row, transfers, count);
     }
     Gathered { room, count }
 }

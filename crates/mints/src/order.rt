@@ -47,10 +47,7 @@ pub(crate) fn sort(table: &[u8], rows: usize, order: &mut [u32]) -> usize
     ensures { (result ≡ length (sort_to table.now rows)) × (take result order.new ≡ sort_to table.now rows) }
 {
     let mut k = 0;
-    let mut next = 0;
-    while next < rows {
-        let r = next;
-        next += 1;
+    for r in 0..rows {
         if table[r * WIDTH + 64] <= 1 {
             continue;
         }
@@ -65,7 +62,7 @@ pub(crate) fn sort(table: &[u8], rows: usize, order: &mut [u32]) -> usize
 fn mark_of(state: u8) -> u8
     ensures { result ≡ state - 2 }
 {
-    if state < 2 { 0 } else { state - 2 }
+    state.saturating_sub(2)
 }
 
 // Writes the first k of the ordered rows: account, mint, mark.
@@ -73,12 +70,10 @@ pub(crate) fn write_rows(table: &[u8], order: &[u32], k: usize, out: &mut [u8])
     requires { (k ≤ length order.now) × (k ≤ 65536) × Fits table.now (take k order.now) }
     ensures { out.new ≡ sets out.old 0 (rows_bytes table.now (take k order.now)) }
 {
-    let mut j = 0;
-    while j < k {
+    for j in 0..k {
         let x = order[j] as usize * WIDTH;
         wire::put(out, j * WIDTH, &table[x..x + 64]);
         wire::put_byte(out, j * WIDTH + 64, mark_of(table[x + 64]));
-        j += 1;
     }
 }
 
@@ -98,9 +93,7 @@ pub(crate) fn write_mints(table: &[u8], row: &[u32], n: usize, out: &mut [u8])
     requires { (n ≤ length row.now) × (n ≤ 65536) × Fits table.now row.now × (out.old ≡ zeros (length out.old)) }
     ensures { out.new ≡ sets out.old 0 (mints_to table.now row.now n) }
 {
-    let mut i = 0;
-    while i < n {
+    for i in 0..n {
         write_mint(table, row[i] as usize, i, out);
-        i += 1;
     }
 }

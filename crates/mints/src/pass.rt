@@ -1,22 +1,32 @@
 // Plain transfers over the table: they hand a mint to the end that has none, pass after pass.
 //
 // A transfer is two row numbers, found once for each key, so a step looks at two state bytes and searches nothing.
-ghost use Rattle.std.specs.Prelude.{◌≡◌, ◌≢◌, ◌+◌, ◌*◌, ◌≤◌, length};
+ghost use Rattle.std.specs.Prelude.{◌≡◌, ◌≢◌, ◌+◌, ◌*◌, ◌≤◌, length, MatchResult};
+ghost use Rattle.std.proofs.Math.Option.{none, some};
 ghost use Rattle.mints.specs.Bytes.{mint_width};
-ghost use Rattle.mints.specs.Cells.{Fits};
-ghost use Rattle.mints.specs.Pass.{hand_at, step_at, filled_at, pass_to, passes};
+ghost use Rattle.mints.specs.Pass.{EndsFit, hand_at, step_at, filled_at, pass_to, passes};
 
-use crate::WIDTH;
+use crate::{TooManyPasses, WIDTH};
+
+// The rows of a plain transfer's source and destination.
+#[derive(Clone, Copy)]
+pub struct Transfer {
+    pub from: u32,
+    pub to: u32,
+}
+
+impl Transfer {
+    // A transfer from row 0 to itself, which an array is full of before it is written.
+    pub(crate) const NONE: Transfer = Transfer { from: 0, to: 0 };
+}
 
 // Copies the mint of row a to row b, which is then filled in.
 fn hand(table: &mut [u8], a: usize, b: usize)
     requires { (a ≢ b) × (a * mint_width + mint_width ≤ length table.old) × (b * mint_width + mint_width ≤ length table.old) }
     ensures { table.new ≡ hand_at table.old a b }
 {
-    let mut j = 0;
-    while j < 32 {
+    for j in 0..32 {
         table[b * WIDTH + 32 + j] = table[a * WIDTH + 32 + j];
-        j += 1;
     }
     table[b * WIDTH + 64] = 3;
 }
@@ -45,45 +55,49 @@ fn step(table: &mut [u8], a: usize, b: usize) -> usize
     0
 }
 
-// One pass over the n transfers; answers how many accounts are filled in.
-fn pass(table: &mut [u8], from: &[u32], to: &[u32], n: usize) -> usize
-    requires { (n ≤ length from.now) × (n ≤ length to.now) × Fits table.old from.now × Fits table.old to.now }
-    ensures { pass_to from.now to.now table.entry.now n ≡ record { table = table.exit.now; room = result } }
+// One pass over the transfers; answers how many accounts are filled in.
+fn pass(table: &mut [u8], transfers: &[Transfer]) -> usize
+    requires { (length transfers.now ≤ 1024) × EndsFit table.old transfers.now }
+    ensures { pass_to transfers.now table.entry.now (length transfers.now) ≡ record { table = table.exit.now; room = result } }
 {
     let mut added = 0;
-    let mut i = 0;
-    while i < n {
-        added += step(table, from[i] as usize, to[i] as usize);
-        i += 1;
+    for transfer in transfers {
+        added += step(table, transfer.from as usize, transfer.to as usize);
     }
     added
 }
 
+// The passes, and the accounts that need room.
 #[derive(Clone, Copy)]
 pub struct Ran {
     pub passes: usize,
     pub room: usize,
 }
 
-// Passes until one adds nothing, at most 512 (513 tells that these are too few); none where nothing is recorded.
-pub(crate) fn run(table: &mut [u8], from: &[u32], to: &[u32], n: usize, recorded: usize) -> Ran
-    requires n_bound { (n ≤ 1024) × (recorded ≤ 1152921504606846976) }
-    requires n_in_bounds { (n ≤ length from.now) × (n ≤ length to.now) × Fits table.old from.now × Fits table.old to.now }
-    ensures { passes from.now to.now n table.entry.now recorded
-        ≡ record { table = table.exit.now; room = result.room; passes = result.passes } }
+// Passes until one adds nothing, at most 512; none where nothing is recorded.
+pub(crate) fn run(
+    table: &mut [u8],
+    transfers: &[Transfer],
+    recorded: usize,
+) -> Result<Ran, TooManyPasses>
+    requires { (length transfers.now ≤ 1024) × (recorded ≤ 1152921504606846976) × EndsFit table.old transfers.now }
+    ensures { MatchResult result
+        (λ ran. passes transfers.now table.entry.now recorded ≡ record { table = table.exit.now; room = ran.room; passes = some ran.passes })
+        (λ _. (passes transfers.now table.entry.now recorded).passes ≡ none) }
 {
     let mut room = recorded;
     if room == 0 {
-        return Ran { passes: 0, room };
+        return Ok(Ran { passes: 0, room });
     }
-    let mut p = 0;
-    while p < 512 {
-        let added = pass(table, from, to, n);
-        p += 1;
+    for p in 0..512 {
+        let added = pass(table, transfers);
         if added == 0 {
-            return Ran { passes: p, room };
+            return Ok(Ran {
+                passes: p + 1,
+                room,
+            });
         }
         room += added;
     }
-    Ran { passes: 513, room }
+    Err(TooManyPasses)
 }

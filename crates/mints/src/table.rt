@@ -70,14 +70,12 @@ fn lay_marking(keys: &[u8], table: &mut [u8], row: &mut [u32], ends: &mut [u8; 2
     table[64] = 1;
     ends[wire::byte(table, 31) as usize] = 1;
     let mut rows = 1;
-    let mut i = 0;
-    while i < keys.len() / 33 {
+    for i in 0..keys.len() / 33 {
         let key = ids::key(keys, &blank, i);
         let r = row_for(table, rows, ends, key);
         rows = add(table, rows, r, key);
         ends[wire::byte(key, 31) as usize] = 1;
         row[i] = r as u32;
-        i += 1;
     }
     rows
 }

@@ -1,7 +1,13 @@
 -- A shorter list is all of its own first offsets.
-use lib.Seq.{take_all}
-use mathlib.Core.Path.{sym}
+use Rattle.std.proofs.lemmas.List.{take_min}
+use lib.ListN.{length, take}
+use Prim.Native.Nat.{ℕ, min}
+use mathlib.Core.Path.{◌≡◌, ap, ◌∙◌}
+use native.Mathlib.Omega.{arith}
 use Rattle.mints.proofs.first_offsets.Goals as goal
 
-pub returns-else-at-gt1024 : goal.returns-else-at-gt1024
-returns-else-at-gt1024 c = sym (take_all 1024 c.args.at.now c.if-at-gt1024.false)
+pub returns : goal.returns
+returns c =
+    let l = c.args.at.now in
+    let e : c.min.result ≡ min 1024 (length l) = omega arith in
+    ap (λ (n : ℕ). take n l) e ∙ take_min 1024 l

@@ -8,7 +8,7 @@ meet_all-requires c =
     let apart = c.label_apart in
     let l : length apart.new.label ≡ length c.args.label.now = apart.auto.label in
     let p = c.requires in
-    record { n_in_bounds = (p.n_in_bounds.0, p.n_in_bounds.1, λ i. rw l (p.n_in_bounds.2 i), λ i. rw l (p.n_in_bounds.3 i)); mint_width_in_bounds = rw l p.mint_width_in_bounds.0 }
+    (λ i. rw l (p.0 i), rw l p.1)
 
 pub returns : goal.returns
 returns c =

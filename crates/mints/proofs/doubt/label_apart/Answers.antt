@@ -11,20 +11,20 @@ use native.Mathlib.Omega.{arith}
 use Rattle.mints.proofs.doubt.label_apart.Goals as goal
 
 pub loop-r-init : goal.loop-r-init
-loop-r-init c = (omega arith, refl, refl)
+loop-r-init c = (refl, refl)
 
 pub loop-r-preserved : goal.loop-r-preserved
 loop-r-preserved c =
     let l = c.loop-r in
     let a = c.args in
-    (omega arith, simp length-set l.invariant.1, rw l.invariant.2 (own-more a.label.now (length a.label.now) l.r (omega arith)))
+    (simp length-set l.invariant.0, rw l.invariant.1 (own-more a.label.now (length a.label.now) l.r (omega arith)))
 
 pub shape_of-label : goal.shape_of-label
-shape_of-label c = c.loop-r.invariant.1
+shape_of-label c = c.loop-r.invariant.0
 
 pub returns : goal.returns
 returns c =
     let l = c.loop-r in
     let n = length c.args.label.now in
     let e : length (own_labels n) ≡ n = tab-length (λ (r : ℕ). r) 0 n in
-    l.invariant.2 ∙ rw (take_all l.r (own_labels n) (omega arith)) (sets-whole c.args.label.now (own_labels n) e)
+    l.invariant.1 ∙ rw (take_all l.r (own_labels n) (omega arith)) (sets-whole c.args.label.now (own_labels n) e)

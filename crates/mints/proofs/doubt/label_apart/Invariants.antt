@@ -2,12 +2,8 @@
 use Rattle.mints.specs.Doubt.{own_labels}
 use lib.Seq.{sets}
 use lib.ListN.{length, take}
-use Prim.Native.Nat.{◌-◌, ◌≤◌}
 use mathlib.Core.Path.{◌≡◌}
 use Rattle.mints.proofs.doubt.label_apart.Given as goal
 
 abbrev pub invariant-loop-r : goal.invariant-loop-r
-invariant-loop-r l = (l.r ≤ length l.initial.label) × (length l.label ≡ length l.initial.label) × (l.label ≡ sets l.initial.label 0 (take l.r (own_labels (length l.initial.label))))
-
-abbrev pub decreases-loop-r : goal.decreases-loop-r
-decreases-loop-r l = length l.initial.label - l.r
+invariant-loop-r l = (length l.label ≡ length l.initial.label) × (l.label ≡ sets l.initial.label 0 (take l.r (own_labels (length l.initial.label))))

@@ -5,34 +5,29 @@ use lib.ListN.{length}
 use mathlib.Core.Path.{◌≡◌, refl, ◌∙◌}
 use native.Mathlib.Omega.{arith}
 use Rattle.mints.proofs.doubt.mark.Goals as goal
+use Rattle.mints.proofs.doubt.mark.Goals.{then-label-r-eq0, else-label-r-eq0}
 
-pub loop-next-init : goal.loop-next-init
+pub loop-r-init : goal.loop-r-init
 unfolding marks_to
-loop-next-init c = (omega arith, refl, refl)
-
-pub loop-next-preserved-then-label-r-ne0 : goal.loop-next-preserved-then-label-r-ne0
-loop-next-preserved-then-label-r-ne0 c =
-    let l = c.loop-next in
-    let a = c.args in
-    (omega arith, l.invariant.1, mark-skip a.table.now a.label.now l.next l.invariant.2 c.if-label-r-ne0.true)
+loop-r-init c = (refl, refl)
 
 pub doubt-requires : goal.doubt-requires
-doubt-requires c = omega (arith, c.loop-next.invariant.1, c.requires)
+doubt-requires c = omega (arith, c.loop-r.invariant.0, c.requires)
 
-pub loop-next-preserved : goal.loop-next-preserved
-loop-next-preserved c =
-    let l = c.loop-next in
-    let a = c.args in (
-      omega (arith, c.loop-next-test.true),
-      c.doubt.auto.table ∙ l.invariant.1,
-      c.doubt.ensures ∙ mark-next a.table.now a.label.now l.next l.invariant.2 c.if-label-r-ne0.false,
-    )
+pub loop-r-preserved : goal.loop-r-preserved
+loop-r-preserved c =
+    let l = c.loop-r in
+    let a = c.args in
+    elim c.if-label-r-eq0.branch [
+      | then-label-r-eq0 w ↦ rw w.table-is (w.doubt.auto.table ∙ l.invariant.0, w.doubt.ensures ∙ mark-next a.table.now a.label.now l.r l.invariant.1 w.if-label-r-eq0.true)
+      | else-label-r-eq0 w ↦ rw w.table-is (l.invariant.0, mark-skip a.table.now a.label.now l.r l.invariant.1 w.if-label-r-eq0.false)
+    ]
 
 pub shape_of-table : goal.shape_of-table
-shape_of-table c = c.loop-next.invariant.1
+shape_of-table c = c.loop-r.invariant.0
 
 pub returns : goal.returns
 returns c =
-    let l = c.loop-next in
-    let n : l.next ≡ length c.args.label.now = omega arith in
-    rw n at l.invariant.2
+    let l = c.loop-r in
+    let n : l.r ≡ length c.args.label.now = omega arith in
+    rw n at l.invariant.1

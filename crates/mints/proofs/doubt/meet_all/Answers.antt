@@ -2,38 +2,31 @@
 use Rattle.mints.proofs.Labelling.{meet-next}
 use Rattle.mints.specs.Doubt.{labels_to}
 use mathlib.Core.Path.{◌≡◌, refl, ◌∙◌}
+use lib.ListN.{length}
 use native.Mathlib.Omega.{arith}
 use Rattle.mints.proofs.doubt.meet_all.Goals as goal
 
-pub loop-i-init : goal.loop-i-init
+pub loop-transfer-init : goal.loop-transfer-init
 unfolding labels_to
-loop-i-init c = (omega arith, refl, refl)
-
-pub overflow_cast-from : goal.overflow_cast-from
-overflow_cast-from c = omega arith
-
-pub overflow_cast-to : goal.overflow_cast-to
-overflow_cast-to c = omega arith
+loop-transfer-init c = (refl, refl)
 
 pub meet-requires : goal.meet-requires
 meet-requires c =
-    let turn = c.loop-i in (
-      omega (arith, turn.invariant.1, c.requires.n_in_bounds.2 turn.i),
-      omega (arith, turn.invariant.1, c.requires.n_in_bounds.3 turn.i),
-      omega (arith, turn.invariant.1, c.requires.mint_width_in_bounds),
-    )
+    let turn = c.loop-transfer in
+    let p = c.requires.0 turn.transfer-index in
+    (omega (arith, turn.invariant.0, p.0), omega (arith, turn.invariant.0, p.1), omega (arith, turn.invariant.0, c.requires.1))
 
-pub loop-i-preserved : goal.loop-i-preserved
-loop-i-preserved c =
-    let l = c.loop-i in
+pub loop-transfer-preserved : goal.loop-transfer-preserved
+loop-transfer-preserved c =
+    let l = c.loop-transfer in
     let a = c.args in
-    (omega arith, c.meet.auto.label ∙ l.invariant.1, c.meet.ensures ∙ meet-next a.from.now a.to.now a.table.now a.label.now l.i l.invariant.2)
+    (c.meet.auto.label ∙ l.invariant.0, c.meet.ensures ∙ meet-next a.transfers.now a.table.now a.label.now l.transfer-index l.invariant.1)
 
 pub shape_of-label : goal.shape_of-label
-shape_of-label c = c.loop-i.invariant.1
+shape_of-label c = c.loop-transfer.invariant.0
 
 pub returns : goal.returns
 returns c =
-    let l = c.loop-i in
-    let n : l.i ≡ c.args.n = omega arith in
-    rw n at l.invariant.2
+    let l = c.loop-transfer in
+    let n : l.transfer-index ≡ length c.args.transfers.now = omega arith in
+    rw n at l.invariant.1

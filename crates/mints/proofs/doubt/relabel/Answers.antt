@@ -13,22 +13,19 @@ returns-then-x-y c =
     let a = c.args in
     sym (relabelled-none a.x a.y a.label.now c.if-x-y.true)
 
-pub loop-r-init : goal.loop-r-init
-loop-r-init c = (omega arith, refl, refl)
+pub loop-z-init : goal.loop-z-init
+loop-z-init c = (refl, refl)
 
-pub loop-r-preserved : goal.loop-r-preserved
-loop-r-preserved c =
-    let l = c.loop-r in
+pub loop-z-preserved : goal.loop-z-preserved
+loop-z-preserved c =
+    let l = c.loop-z in
     let a = c.args in
-    (omega arith, simp length-set l.invariant.1, rw (c.rename.ensures, l.invariant.2) (relabelled-more a.x a.y a.label.now l.r (omega arith)))
-
-pub shape_of-label : goal.shape_of-label
-shape_of-label c = c.loop-r.invariant.1
+    (simp length-set l.invariant.0, rw (c.rename.ensures, l.invariant.1) (relabelled-more a.x a.y a.label.now l.z-index (omega arith)))
 
 pub returns : goal.returns
 returns c =
-    let l = c.loop-r in
+    let l = c.loop-z in
     let a = c.args in
     let v = relabelled a.x a.y a.label.now in
     let e : length v ≡ length a.label.now = relabelled-length a.x a.y a.label.now in
-    l.invariant.2 ∙ rw (take_all l.r v (omega arith)) (sets-whole a.label.now v e)
+    l.invariant.1 ∙ rw (take_all l.z-index v (omega arith)) (sets-whole a.label.now v e)

@@ -2,12 +2,8 @@
 use Rattle.mints.specs.Doubt.{relabelled}
 use lib.Seq.{sets}
 use lib.ListN.{length, take}
-use Prim.Native.Nat.{◌-◌, ◌≤◌}
 use mathlib.Core.Path.{◌≡◌}
 use Rattle.mints.proofs.doubt.relabel.Given as goal
 
-abbrev pub invariant-loop-r : goal.invariant-loop-r
-invariant-loop-r l = (l.r ≤ length l.initial.label) × (length l.label ≡ length l.initial.label) × (l.label ≡ sets l.initial.label 0 (take l.r (relabelled l.x l.y l.initial.label)))
-
-abbrev pub decreases-loop-r : goal.decreases-loop-r
-decreases-loop-r l = length l.initial.label - l.r
+abbrev pub invariant-loop-z : goal.invariant-loop-z
+invariant-loop-z l = (length l.label ≡ length l.initial.label) × (l.label ≡ sets l.initial.label 0 (take l.z-index (relabelled l.x l.y l.initial.label)))

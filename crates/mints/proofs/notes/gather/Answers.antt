@@ -1,6 +1,6 @@
 -- Each turn reads one instruction more: another program's changes nothing, a token program's is noted and listed as the definition says, and counts grow by
 -- at most two and one.
-use Rattle.mints.proofs.Gathering.{program-next, programs-all, token-is, gather-pass, gather-next, room_next, count_next}
+use Rattle.mints.proofs.Gathering.{program-next, programs-all, token-is, token-none, gather-pass, gather-next, room_next, count_next}
 use Rattle.mints.specs.Gather.{is_plain, Gathered, gather_to}
 use lib.ListN.{length}
 use mathlib.Core.Path.{◌≡◌, refl, sym, ◌∙◌}
@@ -9,13 +9,13 @@ use Rattle.mints.proofs.notes.gather.Goals as goal
 
 pub loop-i-init : goal.loop-i-init
 unfolding gather_to
-loop-i-init c = (omega arith, refl, refl, refl, omega arith, omega arith, refl, refl)
+loop-i-init c = (refl, refl, omega arith, omega arith, refl, refl)
 
 pub overflow_cast-o : goal.overflow_cast-o
 overflow_cast-o c = omega arith
 
 pub bounds-programs-i : goal.bounds-programs-i
-bounds-programs-i c = omega (arith, c.requires.at_in_bounds.2)
+bounds-programs-i c = omega (arith, c.requires.at_in_bounds.1)
 
 pub loop-i-preserved-then-not-token_program : goal.loop-i-preserved-then-not-token_program
 loop-i-preserved-then-not-token_program c =
@@ -27,23 +27,42 @@ loop-i-preserved-then-not-token_program c =
     let few = c.requires.fits.1 in
     let filled = c.fill.ensures in
     let program = c.program.ensures in
-    let number = c.number-number.ensures in
-    let s : Gathered = record { noted = record { table = a.table.now; room = 0 }; from = a.from.now; to = a.to.now; count = 0 } in (
-      omega (arith, c.loop-i-test.true),
+    let id = c.program-id.ensures in
+    let s : Gathered = record { noted = record { table = a.table.now; room = 0 }; transfers = a.transfers.now; count = 0 } in (
+      l.invariant.0,
       l.invariant.1,
-      l.invariant.2,
-      l.invariant.3,
-      omega (arith, l.invariant.4),
-      omega (arith, l.invariant.5),
-      gather-pass ks p o l.i few filled program number c.of_number-id.ensures (sym c.token_program.ensures ∙ c.if-not-token_program.true) a.row.now s l.invariant.6,
-      program-next ks p o l.i few filled program number c.loop-i-test.true a.programs.now l.invariant.7,
+      omega (arith, l.invariant.2),
+      omega (arith, l.invariant.3),
+      gather-pass ks p o a.row.now s l.i (token-none ks p o l.i few filled program id (sym c.token_program.ensures ∙ c.if-not-token_program.true)) l.invariant.4,
+      program-next ks p o l.i few filled program id c.loop-i-test.true a.programs.now l.invariant.5,
+    )
+
+pub loop-i-preserved-in_default : goal.loop-i-preserved-in_default
+loop-i-preserved-in_default c =
+    let l = c.loop-i in
+    let a = c.args in
+    let ks = a.keys.now in
+    let p = a.pack.now in
+    let o = a.at.now in
+    let few = c.requires.fits.1 in
+    let filled = c.fill.ensures in
+    let program = c.program.ensures in
+    let id = c.program-id.ensures in
+    let token = token-is ks p o l.i few filled program id c.accounts-accounts.ensures c.«data».ensures (sym c.in_default.is ∙ c.parse.ensures) in
+    let s : Gathered = record { noted = record { table = a.table.now; room = 0 }; transfers = a.transfers.now; count = 0 } in (
+      l.invariant.0,
+      l.invariant.1,
+      omega (arith, l.invariant.2),
+      omega (arith, l.invariant.3),
+      gather-pass ks p o a.row.now s l.i token l.invariant.4,
+      program-next ks p o l.i few filled program id c.loop-i-test.true a.programs.now l.invariant.5,
     )
 
 pub observe-room-requires : goal.observe-room-requires
-observe-room-requires c = (omega arith, λ i. rw c.loop-i.invariant.1 (c.requires.fits.0 i))
+observe-room-requires c = (omega arith, λ i. rw c.loop-i.invariant.0 (c.requires.fits.0 i))
 
 pub list-count-requires : goal.list-count-requires
-list-count-requires c = (omega (arith, c.requires.at_in_bounds.0), omega (arith, c.requires.at_in_bounds.1))
+list-count-requires c = omega (arith, c.loop-i.invariant.1, c.requires.at_in_bounds.0)
 
 pub loop-i-preserved : goal.loop-i-preserved
 loop-i-preserved c =
@@ -56,34 +75,28 @@ loop-i-preserved c =
     let few = c.requires.fits.1 in
     let filled = c.fill.ensures in
     let program = c.program.ensures in
-    let number = c.number-number.ensures in
-    let token = token-is ks p o l.i few filled program number c.of_number-id.ensures c.accounts-accounts.ensures c.«data».ensures c.parse-token.ensures in
+    let id = c.program-id.ensures in
+    let token = token-is ks p o l.i few filled program id c.accounts-accounts.ensures c.«data».ensures (sym c.in-Some.is ∙ c.parse.ensures) in
     let kept : length c.observe-room.new.table ≡ length l.table = c.observe-room.auto.table in
-    let from : length c.list-count.new.from ≡ length l.from = c.list-count.auto.from in
-    let to : length c.list-count.new.to ≡ length l.to = c.list-count.auto.to in
-    let listed = c.list-count.ensures in (
-      omega (arith, c.loop-i-test.true),
-      kept ∙ l.invariant.1,
-      from ∙ l.invariant.2,
-      to ∙ l.invariant.3,
-      room_next ks row c.parse-token.result c.accounts-accounts.result.now (record { table = l.table; room = l.room }) l.i c.observe-room.ensures l.invariant.4,
-      count_next (is_plain c.parse-token.result) l.count l.i listed.value l.invariant.5,
-      gather-next ks p o row (record { noted = record { table = a.table.now; room = 0 }; from = a.from.now; to = a.to.now; count = 0 }) l.i l.invariant.6 token c.accounts-accounts.ensures c.observe-room.ensures listed.value listed.from_after listed.to_after,
-      program-next ks p o l.i few filled program number c.loop-i-test.true a.programs.now l.invariant.7,
+    let listed : length c.list-count.new.transfers ≡ length l.transfers = c.list-count.auto.transfers in
+    let q = c.list-count.ensures in (
+      kept ∙ l.invariant.0,
+      listed ∙ l.invariant.1,
+      room_next ks row c.in-Some.token c.accounts-accounts.result.now (record { table = l.table; room = l.room }) l.i c.observe-room.ensures l.invariant.2,
+      count_next (is_plain c.in-Some.token) l.count l.i q.value l.invariant.3,
+      gather-next ks p o row (record { noted = record { table = a.table.now; room = 0 }; transfers = a.transfers.now; count = 0 }) l.i l.invariant.4 token c.accounts-accounts.ensures c.observe-room.ensures q.value q.transfers_after,
+      program-next ks p o l.i few filled program id c.loop-i-test.true a.programs.now l.invariant.5,
     )
 
 pub shape_of-table : goal.shape_of-table
-shape_of-table c = c.loop-i.invariant.1
+shape_of-table c = c.loop-i.invariant.0
 
-pub shape_of-from : goal.shape_of-from
-shape_of-from c = c.loop-i.invariant.2
-
-pub shape_of-to : goal.shape_of-to
-shape_of-to c = c.loop-i.invariant.3
+pub shape_of-transfers : goal.shape_of-transfers
+shape_of-transfers c = c.loop-i.invariant.1
 
 pub returns : goal.returns
 returns c =
     let l = c.loop-i in
     let a = c.args in
     let n : l.i ≡ length a.at.now = omega arith in
-    record { to_value = rw n at l.invariant.6; programs_after = programs-all a.keys.now a.pack.now a.at.now a.programs.now n l.invariant.7 }
+    record { to_value = rw n at l.invariant.4; programs_after = programs-all a.keys.now a.pack.now a.at.now a.programs.now n l.invariant.5 }

@@ -9,7 +9,7 @@ use Rattle.mints.proofs.notes.note_balances.Goals as goal
 
 pub loop-i-init : goal.loop-i-init
 unfolding balances_to
-loop-i-init c = (omega arith, refl, omega arith, refl)
+loop-i-init c = (refl, omega arith, refl)
 
 pub note-room-requires : goal.note-room-requires
 note-room-requires c =
@@ -33,17 +33,16 @@ loop-i-preserved c =
     let a = c.args in
     let q = c.note-room.ensures in
     let w : l.i * 36 + 36 - (l.i * 36 + 4) ≡ 32 = omega arith in (
-      omega arith,
-      c.note-room.auto.table ∙ l.invariant.1,
+      c.note-room.auto.table ∙ l.invariant.0,
       omega (arith, q.1, one-new l.table row_of.result (take (l.i * 36 + 36 - (l.i * 36 + 4)) (drop (l.i * 36 + 4) a.balances.now))),
-      rw (q.0, q.1, row_of.ensures, c.u32_at.ensures, w) (balance-next a.balances.now a.row.now a.table.now l.i l.invariant.3),
+      rw (q.0, q.1, row_of.ensures, c.u32_at.ensures, w) (balance-next a.balances.now a.row.now a.table.now l.i l.invariant.2),
     )
 
 pub shape_of-table : goal.shape_of-table
-shape_of-table c = c.loop-i.invariant.1
+shape_of-table c = c.loop-i.invariant.0
 
 pub returns : goal.returns
 returns c =
     let l = c.loop-i in
     let n : l.i ≡ length c.args.balances.now / 36 = omega arith in
-    rw n at l.invariant.3
+    rw n at l.invariant.2

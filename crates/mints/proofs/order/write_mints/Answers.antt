@@ -11,7 +11,7 @@ use Rattle.mints.proofs.order.write_mints.Goals as goal
 
 pub loop-i-init : goal.loop-i-init
 unfolding mints_to
-loop-i-init c = (omega arith, refl, refl)
+loop-i-init c = (refl, refl)
 
 pub overflow_cast-row : goal.overflow_cast-row
 overflow_cast-row c = omega arith
@@ -19,23 +19,22 @@ overflow_cast-row c = omega arith
 pub write_mint-requires : goal.write_mint-requires
 write_mint-requires c =
     let l = c.loop-i in
-    (c.requires.2 l.i, omega arith, rw l.invariant.2 (mints-blank c.args.out.now c.args.table.now c.args.row.now l.i c.requires.2 c.requires.3))
+    (c.requires.2 l.i, omega arith, rw l.invariant.1 (mints-blank c.args.out.now c.args.table.now c.args.row.now l.i c.requires.2 c.requires.3))
 
 pub loop-i-preserved : goal.loop-i-preserved
 unfolding mints_to
 loop-i-preserved c =
     let l = c.loop-i in
     let a = c.args in (
-      omega arith,
-      c.write_mint.auto.out ∙ l.invariant.1,
-      c.write_mint.ensures ∙ rw (l.invariant.2, add-one l.i) (sets-next a.out.now 0 (mints_to a.table.now a.row.now l.i) (shown_mint a.table.now (get_or a.row.now l.i 0)) (l.i * 32) (omega (arith, mints-length a.table.now a.row.now l.i c.requires.2))),
+      c.write_mint.auto.out ∙ l.invariant.0,
+      c.write_mint.ensures ∙ rw (l.invariant.1, add-one l.i) (sets-next a.out.now 0 (mints_to a.table.now a.row.now l.i) (shown_mint a.table.now (get_or a.row.now l.i 0)) (l.i * 32) (omega (arith, mints-length a.table.now a.row.now l.i c.requires.2))),
     )
 
 pub shape_of-out : goal.shape_of-out
-shape_of-out c = c.loop-i.invariant.1
+shape_of-out c = c.loop-i.invariant.0
 
 pub returns : goal.returns
 returns c =
     let l = c.loop-i in
     let n : l.i ≡ c.args.n = omega arith in
-    rw n at l.invariant.2
+    rw n at l.invariant.1

@@ -14,7 +14,7 @@ use Rattle.mints.proofs.order.write_rows.Goals as goal
 
 pub loop-j-init : goal.loop-j-init
 unfolding rows_bytes
-loop-j-init c = (omega arith, refl, refl)
+loop-j-init c = (refl, refl)
 
 pub overflow_cast-x : goal.overflow_cast-x
 overflow_cast-x c = omega arith
@@ -48,16 +48,15 @@ loop-j-preserved c =
     let r = get_or a.order.now l.j 0 in
     let p = simp add-sub_cancel_left at put.ensures in
     let w = rows-length a.table.now o (fits-take a.table.now a.order.now l.j a.k (omega arith) c.requires.0 c.requires.2) in (
-      omega arith,
-      c.put_byte.auto.d ∙ put.auto.d ∙ l.invariant.1,
-      c.put_byte.ensures ∙ rw (p, c.mark_of.ensures, row_put l.out a.table.now (l.j * mint_width) r (fit_at a.table.now a.order.now a.k l.j (omega arith) c.requires.2), l.invariant.2, rows_next a.table.now a.order.now l.j (omega (arith, c.requires.0))) (sets-next a.out.now 0 (rows_bytes a.table.now o) (row_bytes a.table.now r) (l.j * mint_width) (omega (arith, w, length-take-le l.j a.order.now (omega (arith, c.requires.0))))),
+      c.put_byte.auto.d ∙ put.auto.d ∙ l.invariant.0,
+      c.put_byte.ensures ∙ rw (p, c.mark_of.ensures, row_put l.out a.table.now (l.j * mint_width) r (fit_at a.table.now a.order.now a.k l.j (omega arith) c.requires.2), l.invariant.1, rows_next a.table.now a.order.now l.j (omega (arith, c.requires.0))) (sets-next a.out.now 0 (rows_bytes a.table.now o) (row_bytes a.table.now r) (l.j * mint_width) (omega (arith, w, length-take-le l.j a.order.now (omega (arith, c.requires.0))))),
     )
 
 pub shape_of-out : goal.shape_of-out
-shape_of-out c = c.loop-j.invariant.1
+shape_of-out c = c.loop-j.invariant.0
 
 pub returns : goal.returns
 returns c =
     let l = c.loop-j in
     let n : l.j ≡ c.args.k = omega arith in
-    rw n at l.invariant.2
+    rw n at l.invariant.1

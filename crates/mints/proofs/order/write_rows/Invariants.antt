@@ -2,12 +2,8 @@
 use Rattle.mints.specs.Order.{rows_bytes}
 use lib.Seq.{sets}
 use lib.ListN.{length, take}
-use Prim.Native.Nat.{◌-◌, ◌≤◌}
 use mathlib.Core.Path.{◌≡◌}
 use Rattle.mints.proofs.order.write_rows.Given as goal
 
 abbrev pub invariant-loop-j : goal.invariant-loop-j
-invariant-loop-j l = (l.j ≤ l.k) × (length l.out ≡ length l.initial.out) × (l.out ≡ sets l.initial.out 0 (rows_bytes l.table (take l.j l.order)))
-
-abbrev pub decreases-loop-j : goal.decreases-loop-j
-decreases-loop-j l = l.k - l.j
+invariant-loop-j l = (length l.out ≡ length l.initial.out) × (l.out ≡ sets l.initial.out 0 (rows_bytes l.table (take l.j l.order)))

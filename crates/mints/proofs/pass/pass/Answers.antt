@@ -1,48 +1,42 @@
 -- Each turn makes one step more, and a step fills in at most one account, so the count does not overflow.
 use Rattle.mints.proofs.Passing.{one-filled, pass-next}
-use Rattle.mints.specs.Pass.{pass_to}
-use lib.ListN.{get_or}
+use Rattle.mints.specs.Pass.{from_at, to_at, pass_to}
 use mathlib.Core.Path.{◌≡◌, refl, ◌∙◌}
+use lib.ListN.{length}
 use native.Mathlib.Omega.{arith}
 use Rattle.mints.proofs.pass.pass.Goals as goal
 
-pub loop-i-init : goal.loop-i-init
+pub loop-transfer-init : goal.loop-transfer-init
 unfolding pass_to
-loop-i-init c = (omega arith, refl, omega arith, refl)
-
-pub overflow_cast-from : goal.overflow_cast-from
-overflow_cast-from c = omega arith
-
-pub overflow_cast-to : goal.overflow_cast-to
-overflow_cast-to c = omega arith
+loop-transfer-init c = (refl, omega arith, refl)
 
 pub step-added-requires : goal.step-added-requires
 step-added-requires c =
-    let turn = c.loop-i in
-    (omega (arith, c.requires.2 turn.i), omega (arith, c.requires.3 turn.i))
+    let turn = c.loop-transfer in
+    let p = c.requires.1 turn.transfer-index in
+    (omega (arith, turn.invariant.0, p.0), omega (arith, turn.invariant.0, p.1))
 
 pub overflow_add-added : goal.overflow_add-added
 overflow_add-added c =
-    let l = c.loop-i in
+    let l = c.loop-transfer in
     let a = c.args in
-    omega (arith, c.step-added.ensures.1, one-filled l.table (get_or a.from.now l.i 0) (get_or a.to.now l.i 0))
+    omega (arith, c.step-added.ensures.1, one-filled l.table (from_at a.transfers.now l.transfer-index) (to_at a.transfers.now l.transfer-index))
 
-pub loop-i-preserved : goal.loop-i-preserved
-loop-i-preserved c =
-    let l = c.loop-i in
+pub loop-transfer-preserved : goal.loop-transfer-preserved
+loop-transfer-preserved c =
+    let l = c.loop-transfer in
     let a = c.args in
     let q = c.step-added.ensures in (
-      omega arith,
-      c.step-added.auto.table ∙ l.invariant.1,
-      omega (arith, q.1, one-filled l.table (get_or a.from.now l.i 0) (get_or a.to.now l.i 0)),
-      rw (q.0, q.1) (pass-next a.from.now a.to.now a.table.now l.i l.invariant.3),
+      c.step-added.auto.table ∙ l.invariant.0,
+      omega (arith, q.1, one-filled l.table (from_at a.transfers.now l.transfer-index) (to_at a.transfers.now l.transfer-index)),
+      rw (q.0, q.1) (pass-next a.transfers.now a.table.now l.transfer-index l.invariant.2),
     )
 
 pub shape_of-table : goal.shape_of-table
-shape_of-table c = c.loop-i.invariant.1
+shape_of-table c = c.loop-transfer.invariant.0
 
 pub returns : goal.returns
 returns c =
-    let l = c.loop-i in
-    let n : l.i ≡ c.args.n = omega arith in
-    rw n at l.invariant.3
+    let l = c.loop-transfer in
+    let n : l.transfer-index ≡ length c.args.transfers.now = omega arith in
+    rw n at l.invariant.2

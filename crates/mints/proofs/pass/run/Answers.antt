@@ -1,9 +1,10 @@
 -- What is left of the passes from here on is the answer; a pass that adds nothing ends it, and after 512 none is left.
 use Rattle.mints.proofs.Passing.{filled-bound, passes-last, passes-next, passes_over}
 use Rattle.mints.specs.Note.{Noted}
-use Rattle.mints.specs.Pass.{passes}
+use Rattle.mints.specs.Pass.{Ran, passes}
 use borrow.Author.Tests.{ne_eqb}
 use mathlib.Core.Path.{refl, sym, ap, ◌∙◌}
+use lib.ListN.{length}
 use native.Mathlib.Omega.{arith}
 use Rattle.mints.proofs.pass.run.Goals as goal
 
@@ -13,30 +14,29 @@ returns-then-room-eq0 c = rw c.if-room-eq0.true
 
 pub loop-p-init : goal.loop-p-init
 unfolding passes
-loop-p-init c = (omega arith, refl, omega arith, sym (simp (ne_eqb _ _ c.if-room-eq0.false)))
+loop-p-init c = (refl, omega arith, sym (simp (ne_eqb _ _ c.if-room-eq0.false)))
 
 pub pass-added-requires : goal.pass-added-requires
 pass-added-requires c =
     let l = c.loop-p in
-    let p = c.requires.n_in_bounds in
-    (p.0, p.1, λ i. rw l.invariant.1 (p.2 i), λ i. rw l.invariant.1 (p.3 i))
+    (c.requires.0, λ i. rw l.invariant.0 (c.requires.2 i))
 
 pub shape_of-table-then-added-eq0 : goal.shape_of-table-then-added-eq0
-shape_of-table-then-added-eq0 c = c.pass-added.auto.table ∙ c.loop-p.invariant.1
+shape_of-table-then-added-eq0 c = c.pass-added.auto.table ∙ c.loop-p.invariant.0
 
 pub returns-then-added-eq0 : goal.returns-then-added-eq0
 returns-then-added-eq0 c =
     let l = c.loop-p in
     let a = c.args in
     let q = c.pass-added.ensures in
-    let d = sym l.invariant.3 ∙ passes-last a.from.now a.to.now a.n l.table l.room l.p (omega arith) (ap (λ (x : Noted). x.room) q ∙ c.if-added-eq0.true) in
+    let d = sym l.invariant.2 ∙ passes-last a.transfers.now l.table l.room l.p (omega arith) (ap (λ (x : Noted). x.room) q ∙ c.if-added-eq0.true) in
     d ∙ rw q
 
 pub overflow_add-room : goal.overflow_add-room
 overflow_add-room c =
     let l = c.loop-p in
     let a = c.args in
-    omega (arith, ap (λ (x : Noted). x.room) c.pass-added.ensures, filled-bound a.from.now a.to.now l.table a.n)
+    omega (arith, ap (λ (x : Noted). x.room) c.pass-added.ensures, filled-bound a.transfers.now l.table (length a.transfers.now))
 
 pub loop-p-preserved : goal.loop-p-preserved
 loop-p-preserved c =
@@ -44,18 +44,16 @@ loop-p-preserved c =
     let l = c.loop-p in
     let a = c.args in
     let q = pass.ensures in (
-      omega arith,
-      pass.auto.table ∙ l.invariant.1,
-      omega (arith, ap (λ (x : Noted). x.room) q, filled-bound a.from.now a.to.now l.table a.n),
-      rw q at (passes-next a.from.now a.to.now a.n l.table l.room l.p (omega arith) (λ e. c.if-added-eq0.false (sym (ap (λ (x : Noted). x.room) q) ∙ e)) ∙ l.invariant.3),
+      pass.auto.table ∙ l.invariant.0,
+      omega (arith, ap (λ (x : Noted). x.room) q, filled-bound a.transfers.now l.table (length a.transfers.now)),
+      rw q at (passes-next a.transfers.now l.table l.room l.p (omega arith) (λ e. c.if-added-eq0.false (sym (ap (λ (x : Noted). x.room) q) ∙ e)) ∙ l.invariant.2),
     )
 
 pub shape_of-table : goal.shape_of-table
-shape_of-table c = c.loop-p.invariant.1
+shape_of-table c = c.loop-p.invariant.0
 
 pub returns : goal.returns
 returns c =
     let l = c.loop-p in
     let a = c.args in
-    let d = sym l.invariant.3 ∙ passes_over a.from.now a.to.now a.n l.table l.room l.p (omega arith) in
-    d
+    ap (λ (x : Ran). x.passes) (sym l.invariant.2 ∙ passes_over a.transfers.now l.table l.room l.p (omega arith))

@@ -6,7 +6,4 @@ use mathlib.Core.Path.{◌≡◌}
 use Rattle.mints.proofs.pass.run.Given as goal
 
 abbrev pub invariant-loop-p : goal.invariant-loop-p
-invariant-loop-p l = (l.p ≤ 512) × (length l.table ≡ length l.initial.table) × (l.room ≤ l.recorded + l.p * 1024) × (passes_from l.from l.to l.n (512 - l.p) l.table l.room l.p ≡ passes l.from l.to l.n l.initial.table l.recorded)
-
-abbrev pub decreases-loop-p : goal.decreases-loop-p
-decreases-loop-p l = 512 - l.p
+invariant-loop-p l = (length l.table ≡ length l.initial.table) × (l.room ≤ l.recorded + l.p * 1024) × (passes_from l.transfers (512 - l.p) l.table l.room l.p ≡ passes l.transfers l.initial.table l.recorded)

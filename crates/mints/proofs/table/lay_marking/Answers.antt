@@ -15,7 +15,6 @@ unfolding lay_to zero_key
 loop-i-init c =
     let a = c.args in
     let w : length a.ends.now ≡ 256 = c.requires.3 in (
-      omega arith,
       refl,
       refl,
       omega arith,
@@ -33,7 +32,7 @@ unfolding zero_key
 row_for-r-requires c =
     let l = c.loop-i in
     let a = c.args in
-    (ap length c.key-key.ensures ∙ key-length a.keys.now l.i, omega arith, l.invariant.7)
+    (ap length c.key-key.ensures ∙ key-length a.keys.now l.i, omega arith, l.invariant.6)
 
 pub overflow_cast-row : goal.overflow_cast-row
 overflow_cast-row c =
@@ -50,21 +49,20 @@ loop-i-preserved c =
     let q = add.ensures in
     let k : length add.new.table ≡ length l.table = add.auto.table in
     let key = c.key-key in (
-      omega arith,
-      k ∙ l.invariant.1,
-      simp length-set l.invariant.2,
+      k ∙ l.invariant.0,
+      simp length-set l.invariant.1,
       omega (arith, q.value, one-row row-for.result l.rows),
-      omega (arith, k, l.invariant.4),
-      lay-next (key_of a.keys.now) _ a.row.now l.i (record { table = l.table; row = l.row; rows = l.rows }) l.invariant.5 key.ensures row-for.ensures q.table_after q.value,
-      simp length-set l.invariant.6,
-      ends_more l.table key.result.now l.ends l.rows row-for.result l.invariant.7 (ap length key.ensures ∙ key-length a.keys.now l.i) (omega arith) c.byte-in-loop-i.ensures (omega (arith, l.invariant.6)) q.table_after q.value,
+      omega (arith, k, l.invariant.3),
+      lay-next (key_of a.keys.now) _ a.row.now l.i (record { table = l.table; row = l.row; rows = l.rows }) l.invariant.4 key.ensures row-for.ensures q.table_after q.value,
+      simp length-set l.invariant.5,
+      ends_more l.table key.result.now l.ends l.rows row-for.result l.invariant.6 (ap length key.ensures ∙ key-length a.keys.now l.i) (omega arith) c.byte-in-loop-i.ensures (omega (arith, l.invariant.5)) q.table_after q.value,
     )
 
 pub shape_of-table : goal.shape_of-table
-shape_of-table c = simp length-set at c.loop-i.invariant.1
+shape_of-table c = simp length-set at c.loop-i.invariant.0
 
 pub shape_of-row : goal.shape_of-row
-shape_of-row c = c.loop-i.invariant.2
+shape_of-row c = c.loop-i.invariant.1
 
 pub returns : goal.returns
 unfolding with_state
@@ -72,4 +70,4 @@ returns c =
     let l = c.loop-i in
     let a = c.args in
     let n : l.i ≡ key_count a.keys.now = omega arith in
-    rw n at l.invariant.5
+    rw n at l.invariant.4
