@@ -15,7 +15,8 @@ use Rattle.wire.specs.Same.{same}
 use Rattle.wire.proofs.Same.{same_true, same_refl}
 use Rattle.wire.proofs.Laws.{le-back}
 use Rattle.swaps.specs.Discriminators.{eight}
-use Rattle.swaps.specs.Data.{is}
+use Rattle.swaps.specs.Data.{is, is_number, discriminator, when}
+use Rattle.std.specs.Prelude.{Some}
 
 -- every element is a byte
 abbrev pub AllBytes : List ℕ → Type 0
@@ -45,10 +46,10 @@ same_number d x hd hx h e = go (same (take 8 d) x) refl
 
 -- `disc == Some(&x[..])`
 pub is-bytes : (d x : List ℕ) → AllBytes d → AllBytes x → length x ≡ 8 → is d (le 8 x 0) ≡ (leb 8 (length d) && same (take 8 d) x)
-unfolding is
+unfolding is discriminator
 is-bytes d x hd hx e = go (leb 8 (length d)) refl
   where
-    go : (t : Bool) → leb 8 (length d) ≡ t → (t && eqb (le 8 d 0) (le 8 x 0)) ≡ (t && same (take 8 d) x)
+    go : (t : Bool) → leb 8 (length d) ≡ t → is_number (when t (Some (le 8 d 0))) (le 8 x 0) ≡ (t && same (take 8 d) x)
     go true f = same_number d x hd hx (leb-true 8 (length d) f) e
     go false f = refl
 

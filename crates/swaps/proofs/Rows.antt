@@ -4,11 +4,10 @@ use mathlib.Core.Path.{◌≡◌, refl, sym, ap, ◌∙◌, subst}
 use mathlib.Core.Bool.{Bool, true, false, cond, ◌&&◌}
 use mathlib.Core.List.{List, [], ◌∷◌, ◌++◌}
 use mathlib.Core.Option.{Option, none, some, none-ne-some, some-injective}
-use Prim.Native.Nat.{ℕ, suc, ◌+◌, ◌*◌, ◌-◌, ◌≤◌, ◌<◌}
-use native.Mathlib.Omega.{arith}
-use lib.Dec.{eqb}
-use lib.ListN.{length, take, drop, set, length-append}
-use lib.Seq.{sets, drop-drop}
+use Prim.Native.Nat.{ℕ, suc}
+use Rattle.std.specs.Prelude.{Option as Answer, Some, None, option_map}
+use lib.ListN.{length, set, length-append}
+use lib.Seq.{sets}
 use Rattle.wire.specs.Le.{le_bytes}
 use Rattle.wire.specs.Same.{same}
 use Rattle.wire.proofs.Same.{same_true}
@@ -18,13 +17,11 @@ use Rattle.ids.specs.declared.Id.{Id}
 use Rattle.ids.specs.Keys.{Key, zero_key, is_zero, key_of, account}
 use Rattle.ids.specs.Mints.{is_mint, mint_of, mint_field}
 use Rattle.ids.proofs.Keys.{key-length, account-length, mint-length}
-use Rattle.pack.specs.Items.{rows}
+use Rattle.swaps.specs.declared.Pair.{Pair}
 use Rattle.swaps.specs.declared.Swap.{Swap}
-use Rattle.swaps.specs.declared.Found.{Found}
-use Rattle.swaps.specs.declared.Found.TheVariants.{Nothing, Leg}
-use Rattle.swaps.specs.Leg.{RouteLeg, contains, explicit, or_else, leg_with, valued}
+use Rattle.swaps.specs.Leg.{RouteLeg, contains, explicit, or_else, leg_with, is_cpmm, valued}
 use Rattle.swaps.specs.Swap.{by_program, swap}
-use Rattle.swaps.specs.Row.{leg_width, key_bytes, end_bytes, leg_row, side}
+use Rattle.swaps.specs.Row.{leg_width, protocol_number, key_bytes, end_bytes, leg_row, side}
 
 -- a key that is not zero is a mint, and the zero key is none
 is_key : (key : Key) → is_zero key ≡ false → length key ≡ 32 → is_mint key ≡ true
@@ -35,30 +32,35 @@ zero-none : mint_of zero_key ≡ none
 unfolding mint_of is_mint same zero_key
 zero-none = refl
 
--- which mint `side` is
-mint-by : (t paired u : Bool) (m : List ℕ) (key : Key) → is_mint m ≡ t → is_zero key ≡ u → length key ≡ 32
-    → mint_of (cond t m (cond paired key zero_key)) ≡ or_else (cond t (some m) none) (cond paired (cond u none (some key)) none)
+-- which mint `side` is, by the known one and the explicit pair's
+mint-by : (t u : Bool) (m : List ℕ) (key : Key) → is_mint m ≡ t → is_zero key ≡ u → length key ≡ 32
+    → mint_of (cond t m key) ≡ or_else (cond t (some m) none) (cond u none (some key))
 unfolding mint_of
-mint-by true paired u m key e f h = rw e
-mint-by false true true m key e f h = rw (same_true key zero_key f) zero-none
-mint-by false true false m key e f h = rw (is_key key f h)
-mint-by false false u m key e f h = zero-none
+mint-by true u m key e f h = rw e
+mint-by false true m key e f h = rw (same_true key zero_key f) zero-none
+mint-by false false m key e f h = rw (is_key key f h)
 
-pub side-mint : (m : List ℕ) (paired : Bool) (key : Key) → length key ≡ 32
-    → mint_of (side m paired key zero_key) ≡ or_else (mint_of m) (explicit paired key)
+mint-alone : (t : Bool) (m : List ℕ) → is_mint m ≡ t → mint_of (cond t m zero_key) ≡ or_else (cond t (some m) none) none
+unfolding mint_of
+mint-alone true m e = rw e
+mint-alone false m e = zero-none
+
+pub side-mint : (m : List ℕ) (κ : ℕ → Key) (o : Answer ℕ) → ((j : ℕ) → length (κ j) ≡ 32)
+    → mint_of (side m (option_map κ o)) ≡ or_else (mint_of m) (explicit κ o)
 unfolding side mint_of
-side-mint m paired key h = mint-by (is_mint m) paired (is_zero key) m key refl refl h
+side-mint m κ None long = mint-alone (is_mint m) m refl
+side-mint m κ (Some i) long = mint-by (is_mint m) (is_zero (κ i)) m (κ i) refl refl (long i)
 
 -- a mint's field has 33 bytes, whether the mint is known or the pair's
-side-length : (o : Option Key) (paired : Bool) (key : Key) → length (mint_field o) ≡ 33 → length key ≡ 32
-    → length (mint_field (or_else o (explicit paired key))) ≡ 33
-side-length (some m) paired key f h = f
-side-length none false key f h = f
-side-length none true key f h = go (is_zero key)
+side-length : (o : Option Key) (κ : ℕ → Key) (i : Answer ℕ) → length (mint_field o) ≡ 33 → ((j : ℕ) → length (κ j) ≡ 32)
+    → length (mint_field (or_else o (explicit κ i))) ≡ 33
+side-length (some m) κ i f long = f
+side-length none κ None f long = f
+side-length none κ (Some i) f long = go (is_zero (κ i))
   where
-    go : (b : Bool) → length (mint_field (cond b none (some key))) ≡ 33
+    go : (b : Bool) → length (mint_field (cond b none (some (κ i)))) ≡ 33
     go true = f
-    go false = ap suc h
+    go false = ap suc (long i)
 
 -- five keys have 160 bytes
 keys_length : (a b c d e : Key) → length a ≡ 32 → length b ≡ 32 → length c ≡ 32 → length d ≡ 32 → length e ≡ 32 → length (key_bytes a b c d e) ≡ 160
@@ -71,6 +73,13 @@ fields_in : (l : List ℕ) (i p : ℕ) (k m n e : List ℕ) → length k ≡ 160
     ≡ sets l 0 (le_bytes 4 i ++ (p ∷ []) ++ k ++ m ++ n ++ e)
 fields_in l i p k m n e hk hm hn = simp (sets-append, length-append, le_bytes-length, hk, hm, hn)
 
+-- the accounts that are the mints of input and output
+abbrev inputs : Swap → Answer ℕ
+inputs s = option_map (λ (p : Pair). p.input) s.pair
+
+abbrev outputs : Swap → Answer ℕ
+outputs s = option_map (λ (p : Pair). p.output) s.pair
+
 -- a leg's row has the width of the table, where keys and known mints have theirs
 module _ (i : ℕ) (program : Key) (κ : ℕ → Key) (known_in known_out : Option Key) (pools : List Key)
     (hp : length program ≡ 32) (long : (j : ℕ) → length (κ j) ≡ 32) (hi : length (mint_field known_in) ≡ 33) (ho : length (mint_field known_out) ≡ 33) where
@@ -79,8 +88,8 @@ module _ (i : ℕ) (program : Key) (κ : ℕ → Key) (known_in known_out : Opti
   row-length s =
       let five = keys_length program (κ s.pool) (κ s.trader) (κ s.input) (κ s.output) in
       let k = five hp (long s.pool) (long s.trader) (long s.input) (long s.output) in
-      let m = side-length known_in s.paired (κ s.first) hi (long s.first) in
-      let n = side-length known_out s.paired (κ s.second) ho (long s.second) in
+      let m = side-length known_in κ (inputs s) hi long in
+      let n = side-length known_out κ (outputs s) ho long in
       simp (length-append, le_bytes-length, k, m, n)
 
 -- so has the row of a leg that an instruction is
@@ -90,9 +99,9 @@ pub leg-length : (names : List ℕ) (κ : ℕ → Key) → ((j : ℕ) → length
 unfolding swap valued
 leg-length names κ long id accounts bytes μ field pools {l} e i program hp = go (by_program names (account κ accounts) id (length accounts) bytes) e
   where
-    go : (f : Found) → valued (account κ accounts) μ pools f ≡ some l → length (leg_row i program l) ≡ leg_width
-    go Nothing q = absurd (none-ne-some l q)
-    go (Leg s) q =
+    go : (f : Answer Swap) → valued (account κ accounts) μ pools f ≡ some l → length (leg_row i program l) ≡ leg_width
+    go None q = absurd (none-ne-some l q)
+    go (Some s) q =
         let known_in = μ (account κ accounts s.input) in
         let known_out = μ (account κ accounts s.output) in
         subst
@@ -105,48 +114,23 @@ pub row_in : (l : List ℕ) (i : ℕ) (ks : List ℕ) (program : ℕ) (spent bou
     → sets
     (sets
     (sets
-    (sets (set (sets l 0 (le_bytes 4 i)) 4 s.protocol) 5
+    (sets (set (sets l 0 (le_bytes 4 i)) 4 (protocol_number s.protocol)) 5
     (key_bytes (key_of ks program) (key_of ks s.pool) (key_of ks s.trader) (key_of ks s.input) (key_of ks s.output)))
-    165 (mint_field (or_else (mint_of spent) (explicit s.paired (key_of ks s.first)))))
-    198 (mint_field (or_else (mint_of bought) (explicit s.paired (key_of ks s.second)))))
-    231 (end_bytes s.exact s.amount s.threshold s.mode (eqb s.protocol 3 && contains pools (key_of ks s.pool)))
+    165 (mint_field (or_else (mint_of spent) (explicit (key_of ks) (inputs s)))))
+    198 (mint_field (or_else (mint_of bought) (explicit (key_of ks) (outputs s)))))
+    231 (end_bytes s.exact s.amount s.threshold s.mode (is_cpmm s.protocol && contains pools (key_of ks s.pool)))
     ≡ leg_row i (key_of ks program) (leg_with (key_of ks) (mint_of spent) (mint_of bought) pools s)
 unfolding leg_row
 row_in l i ks program spent bought pools s h =
     let k = key-length ks in
-    fields_in l i s.protocol
+    fields_in l i (protocol_number s.protocol)
     (key_bytes (key_of ks program) (key_of ks s.pool) (key_of ks s.trader) (key_of ks s.input) (key_of ks s.output))
-    (mint_field (or_else (mint_of spent) (explicit s.paired (key_of ks s.first))))
-    (mint_field (or_else (mint_of bought) (explicit s.paired (key_of ks s.second))))
-    (end_bytes s.exact s.amount s.threshold s.mode (eqb s.protocol 3 && contains pools (key_of ks s.pool)))
+    (mint_field (or_else (mint_of spent) (explicit (key_of ks) (inputs s))))
+    (mint_field (or_else (mint_of bought) (explicit (key_of ks) (outputs s))))
+    (end_bytes s.exact s.amount s.threshold s.mode (is_cpmm s.protocol && contains pools (key_of ks s.pool)))
     (keys_length (key_of ks program) (key_of ks s.pool) (key_of ks s.trader) (key_of ks s.input) (key_of ks s.output)
     (k program) (k s.pool) (k s.trader) (k s.input) (k s.output))
-    (side-length (mint_of spent) s.paired (key_of ks s.first) (mint-length spent) (k s.first))
-    (side-length (mint_of bought) s.paired (key_of ks s.second) (mint-length bought) (k s.second))
+    (side-length (mint_of spent) (key_of ks) (inputs s) (mint-length spent) k)
+    (side-length (mint_of bought) (key_of ks) (outputs s) (mint-length bought) k)
     ∙ sets-whole l (leg_row i (key_of ks program) (leg_with (key_of ks) (mint_of spent) (mint_of bought) pools s))
     (row-length i (key_of ks program) (key_of ks) (mint_of spent) (mint_of bought) pools (k program) k (mint-length spent) (mint-length bought) s ∙ sym h)
-
--- the rows from row i on of the n rows of a run
-module _ (s : List ℕ) (key : Key) (n i : ℕ) where
-  -- the next row is the key
-  pub pool-here : i < n → same (take 32 (drop (i * 32) s)) key ≡ true → contains (rows 32 (n - i) (drop (i * 32) s)) key ≡ true
-  unfolding rows contains
-  pool-here h e =
-      let t : n - i ≡ suc (n - (i + 1)) = omega arith in
-      rw (t, e)
-
-  -- it is not
-  pub pool-on : i < n → same (take 32 (drop (i * 32) s)) key ≡ false
-      → contains (rows 32 (n - (i + 1)) (drop ((i + 1) * 32) s)) key ≡ contains (rows 32 (n - i) (drop (i * 32) s)) key
-  unfolding rows contains
-  pool-on h e =
-      let t : n - i ≡ suc (n - (i + 1)) = omega arith in
-      let d : i * 32 + 32 ≡ (i + 1) * 32 = omega arith in
-      rw (t, e, drop-drop 32 (i * 32) s, d)
-
-  -- there is none
-  pub pool-none : n ≤ i → contains (rows 32 (n - i) (drop (i * 32) s)) key ≡ false
-  unfolding rows contains
-  pool-none h =
-      let t : n - i ≡ 0 = omega arith in
-      rw t

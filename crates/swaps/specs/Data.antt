@@ -1,13 +1,21 @@
 -- What the protocols read of an instruction's data d.
 -- Assumes nothing.
-use Rattle.std.specs.Prelude.{ℕ, ◌+◌, Bool, cond, ◌&&◌, List, leb, ltb, eqb, length, get_or}
+use Rattle.std.specs.Prelude.{ℕ, ◌+◌, Bool, false, cond, ◌&&◌, List, leb, ltb, eqb, length, get_or, Option, Some, None}
 use Rattle.wire.specs.Le.{le}
-use Rattle.swaps.specs.declared.Found.{Found}
-use Rattle.swaps.specs.declared.Found.TheVariants.{Nothing}
+use Rattle.swaps.specs.Draft.{in_order}
+
+-- `disc`: the first eight bytes as one number, if they are there
+unfoldable pub discriminator : List ℕ → Option ℕ
+discriminator d = cond (leb 8 (length d)) (Some (le 8 d 0)) None
+
+-- a number that is there, and is x
+abbrev pub is_number : Option ℕ → ℕ → Bool
+is_number None x = false
+is_number (Some v) x = eqb v x
 
 -- `disc == Some(&x[..])`: the first eight bytes are there, and are x
 unfoldable pub is : List ℕ → ℕ → Bool
-is d x = leb 8 (length d) && eqb (le 8 d 0) x
+is d x = is_number (discriminator d) x
 
 -- `read_option_bool_idl(d, at)` is Some: the byte is there, and is 0 or 1
 unfoldable pub is_flag : List ℕ → ℕ → Bool
@@ -17,10 +25,22 @@ is_flag d at = ltb at (length d) && ltb (get_or d at 0) 2
 abbrev pub flag : List ℕ → ℕ → Bool
 flag d at = eqb (get_or d at 0) 1
 
+-- `read_option_bool_idl(d, at)`
+abbrev pub flag_at : List ℕ → ℕ → Option Bool
+flag_at d at = cond (is_flag d at) (Some (flag d at)) None
+
 -- go on if the test holds; without it the whole of `swap` is None
-abbrev pub when : Bool → Found → Found
-when test f = cond test f Nothing
+abbrev pub when : {A : Type 0} → Bool → Option A → Option A
+when test f = cond test f None
 
 -- go on with `u64_at(d, at)?` and `u64_at(d, at + 8)?`: where the second is there, so is the first
-abbrev pub both : List ℕ → ℕ → (ℕ → ℕ → Found) → Found
+abbrev pub both : {A : Type 0} → List ℕ → ℕ → (ℕ → ℕ → Option A) → Option A
 both d at f = when (leb (at + 16) (length d)) (f (le 8 d at) (le 8 d (at + 8)))
+
+-- the two numbers
+abbrev pub numbers_at : List ℕ → ℕ → Option (ℕ × ℕ)
+numbers_at d at = both d at (λ first second. Some (first, second))
+
+-- amount and threshold, the two numbers in the order that `exact` asks for
+abbrev pub stated_at : List ℕ → ℕ → Bool → Option (ℕ × ℕ)
+stated_at d at exact = both d at (λ first second. Some (in_order exact first second))

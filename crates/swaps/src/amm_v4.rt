@@ -1,75 +1,59 @@
 // Raydium AMM V4.
-ghost use Rattle.std.specs.Prelude.{◌≡◌, ◌&&◌, ◌||◌, leb, eqb};
-ghost use Rattle.swaps.specs.AmmV4.{amm_v4, amm_v4_short, amm_v4_long};
+ghost use Rattle.std.specs.Prelude.{◌≡◌, length};
+ghost use Rattle.swaps.specs.AmmV4.{amm_v4, short_leg, long_leg};
 
-use crate::Found;
-use crate::draft::stated;
-use crate::fields::choose;
-
-// One of two tags, with so many accounts.
-fn takes(tag: u8, x: u8, y: u8, n: usize, least: usize) -> bool
-    ensures { result ≡ ((eqb tag x || eqb tag y) && leb least n) }
-{
-    if tag == x {
-        return least <= n;
-    }
-    if tag == y {
-        return least <= n;
-    }
-    false
-}
+use crate::instruction::Instruction;
+use crate::{Protocol, Swap};
 
 // Tags 16 and 17.
-fn short(tag: u8, data: &[u8]) -> Found
-    ensures { result ≡ amm_v4_short tag «data».now }
+fn short(i: &Instruction, exact: bool) -> Option<Swap>
+    ensures { result ≡ short_leg i.now.bytes.now exact }
 {
-    if data.len() < 17 {
-        return Found::Nothing;
-    }
-    Found::Leg(stated(
-        4,
-        1,
-        7,
-        5,
-        6,
-        tag == 16,
-        wire::u64_at(data, 1),
-        wire::u64_at(data, 9),
-    ))
+    let (amount, threshold) = i.stated(1, exact)?;
+    Some(Swap {
+        protocol: Protocol::AmmV4,
+        pool: 1,
+        trader: 7,
+        input: 5,
+        output: 6,
+        exact,
+        amount,
+        threshold,
+        mode: None,
+        pair: None,
+    })
 }
 
 // Tags 9 and 11: with 17 accounts the last three stand one place earlier.
-fn long(tag: u8, n: usize, data: &[u8]) -> Found
-    ensures { result ≡ amm_v4_long tag n «data».now }
+fn long(i: &Instruction, exact: bool) -> Option<Swap>
+    ensures { result ≡ long_leg (length i.now.accounts.now) i.now.bytes.now exact }
 {
-    if data.len() < 17 {
-        return Found::Nothing;
-    }
-    let early = n == 17;
-    let trader = choose(early, 16, 17);
-    let input = choose(early, 14, 15);
-    let output = choose(early, 15, 16);
-    Found::Leg(stated(
-        4,
-        1,
-        trader,
-        input,
-        output,
-        tag == 9,
-        wire::u64_at(data, 1),
-        wire::u64_at(data, 9),
-    ))
+    let (amount, threshold) = i.stated(1, exact)?;
+    let shift = u8::from(i.accounts.len() == 17);
+    Some(Swap {
+        protocol: Protocol::AmmV4,
+        pool: 1,
+        trader: 17 - shift,
+        input: 15 - shift,
+        output: 16 - shift,
+        exact,
+        amount,
+        threshold,
+        mode: None,
+        pair: None,
+    })
 }
 
-pub fn leg(n: usize, data: &[u8]) -> Found
-    ensures { result ≡ amm_v4 n «data».now }
+#[tactic(auto, unfolding(crate::specs::AmmV4::amm_v4))]
+pub fn leg(i: &Instruction) -> Option<Swap>
+    ensures { result ≡ amm_v4 (length i.now.accounts.now) i.now.bytes.now }
 {
-    let tag = wire::byte(data, 0);
-    if takes(tag, 16, 17, n, 8) {
-        return short(tag, data);
+    let n = i.accounts.len();
+    match wire::byte(i.bytes, 0) {
+        16 if 8 <= n => short(i, true),
+        17 if 8 <= n => short(i, false),
+        9 if 17 <= n => long(i, true),
+        11 if 17 <= n => long(i, false),
+        _ => None,
     }
-    if takes(tag, 9, 11, n, 17) {
-        return long(tag, n, data);
-    }
-    Found::Nothing
 }

@@ -1,49 +1,45 @@
 // Raydium CLMM.
-ghost use Rattle.std.specs.Prelude.{◌≡◌};
-ghost use Rattle.swaps.specs.Clmm.{clmm, clmm_takes, clmm_leg};
+ghost use Rattle.std.specs.Prelude.{◌≡◌, length};
+ghost use Rattle.swaps.specs.Clmm.{clmm, clmm_form};
 
 use crate::discriminators::{SWAP, SWAP_V2};
-use crate::draft::{pairing, plain};
-use crate::fields::{flag, is, is_flag};
-use crate::{Found, Swap};
+use crate::instruction::Instruction;
+use crate::{Pair, Protocol, Swap};
 
-// `swap` with 10 accounts, or `swap_v2` with 13.
-fn takes(n: usize, data: &[u8]) -> bool
-    ensures { result ≡ clmm_takes n «data».now }
+// `swap` with 10 accounts, or `swap_v2` with 13: whether it is `swap_v2`.
+#[tactic(auto, unfolding(crate::specs::Data::is))]
+fn is_v2(i: &Instruction) -> Option<bool>
+    ensures { result ≡ clmm_form (length i.now.accounts.now) i.now.bytes.now }
 {
-    if is(data, SWAP_V2) {
-        return 13 <= n;
+    let n = i.accounts.len();
+    match i.discriminator()? {
+        SWAP if 10 <= n => Some(false),
+        SWAP_V2 if 13 <= n => Some(true),
+        _ => None,
     }
-    if is(data, SWAP) {
-        return 10 <= n;
-    }
-    false
 }
 
 // `swap_v2` alone names its mints.
-fn draft(v2: bool, exact: bool, amount: u64, threshold: u64) -> Swap
-    ensures { result ≡ clmm_leg v2 exact amount threshold }
+#[tactic(auto, unfolding(crate::specs::Clmm::clmm_leg, crate::specs::Clmm::clmm))]
+pub fn leg(i: &Instruction) -> Option<Swap>
+    ensures { result ≡ clmm (length i.now.accounts.now) i.now.bytes.now }
 {
-    let s = plain(5, 2, 0, 3, 4, exact, amount, threshold);
-    if v2 { pairing(s, 11, 12) } else { s }
-}
-
-pub fn leg(n: usize, data: &[u8]) -> Found
-    ensures { result ≡ clmm n «data».now }
-{
-    if !takes(n, data) {
-        return Found::Nothing;
-    }
-    if !is_flag(data, 40) {
-        return Found::Nothing;
-    }
-    if data.len() < 24 {
-        return Found::Nothing;
-    }
-    Found::Leg(draft(
-        is(data, SWAP_V2),
-        flag(data, 40),
-        wire::u64_at(data, 8),
-        wire::u64_at(data, 16),
-    ))
+    let v2 = is_v2(i)?;
+    let exact = i.flag(40)?;
+    let (amount, threshold) = i.numbers(8)?;
+    Some(Swap {
+        protocol: Protocol::Clmm,
+        pool: 2,
+        trader: 0,
+        input: 3,
+        output: 4,
+        exact,
+        amount,
+        threshold,
+        mode: None,
+        pair: v2.then_some(Pair {
+            input: 11,
+            output: 12,
+        }),
+    })
 }

@@ -1,44 +1,47 @@
 // Raydium CPMM. Its two discriminators are lent in the names.
-ghost use Rattle.std.specs.Prelude.{◌≡◌};
-ghost use Rattle.swaps.specs.Cpmm.{cpmm, cpmm_leg};
+ghost use Rattle.std.specs.Prelude.{◌≡◌, length};
+ghost use Rattle.swaps.specs.Cpmm.{cpmm, cpmm_form};
 
-use crate::Found;
-use crate::draft::{pairing, stated};
-use crate::fields::is;
+use crate::instruction::Instruction;
+use crate::{Pair, Protocol, Swap};
 
-fn draft(data: &[u8], exact: bool) -> Found
-    ensures { result ≡ cpmm_leg «data».now exact }
+// Whether it is exact-in.
+#[tactic(auto, unfolding(crate::specs::Data::is))]
+fn is_exact(names: &[u8], i: &Instruction) -> Option<bool>
+    ensures { result ≡ cpmm_form names.now i.now.bytes.now }
 {
-    if data.len() < 24 {
-        return Found::Nothing;
+    let found = i.discriminator()?;
+    if found == wire::u64_at(names, 0) {
+        Some(true)
+    } else if found == wire::u64_at(names, 8) {
+        Some(false)
+    } else {
+        None
     }
-    Found::Leg(pairing(
-        stated(
-            3,
-            3,
-            0,
-            4,
-            5,
-            exact,
-            wire::u64_at(data, 8),
-            wire::u64_at(data, 16),
-        ),
-        10,
-        11,
-    ))
 }
 
-pub fn leg(names: &[u8], n: usize, data: &[u8]) -> Found
-    ensures { result ≡ cpmm names.now n «data».now }
+#[tactic(auto, unfolding(crate::specs::Cpmm::cpmm))]
+pub fn leg(names: &[u8], i: &Instruction) -> Option<Swap>
+    ensures { result ≡ cpmm names.now (length i.now.accounts.now) i.now.bytes.now }
 {
-    if n < 13 {
-        return Found::Nothing;
+    if i.accounts.len() < 13 {
+        return None;
     }
-    if is(data, wire::u64_at(names, 0)) {
-        return draft(data, true);
-    }
-    if is(data, wire::u64_at(names, 8)) {
-        return draft(data, false);
-    }
-    Found::Nothing
+    let exact = is_exact(names, i)?;
+    let (amount, threshold) = i.stated(8, exact)?;
+    Some(Swap {
+        protocol: Protocol::Cpmm,
+        pool: 3,
+        trader: 0,
+        input: 4,
+        output: 5,
+        exact,
+        amount,
+        threshold,
+        mode: None,
+        pair: Some(Pair {
+            input: 10,
+            output: 11,
+        }),
+    })
 }

@@ -1,58 +1,70 @@
 // Meteora DLMM.
-ghost use Rattle.std.specs.Prelude.{◌≡◌, ◌≤◌};
-ghost use Rattle.swaps.specs.Dlmm.{tag_size, slices as slices_of, slices_fit, swap_layout, dlmm, dlmm_leg};
+ghost use Rattle.std.specs.Prelude.{◌≡◌, ◌≤◌, length, Some};
+ghost use Rattle.swaps.specs.Data.{discriminator};
+ghost use Rattle.swaps.specs.Dlmm.{tag_size, slice_at, slices as slices_of, slices_fit, swap_layout, dlmm};
 
-use crate::Found;
 use crate::discriminators::{SWAP, SWAP_EXACT_OUT, SWAP_EXACT_OUT2, SWAP2};
-use crate::draft::stated;
-use crate::fields::is_either;
+use crate::instruction::Instruction;
+use crate::{Protocol, Swap};
 
-// The bytes of a slice's tag, 0 for a tag that is none.
-fn tag_size(tag: u8) -> usize
+// The bytes of a slice's tag.
+#[tactic(auto, unfolding(crate::specs::Dlmm::tag_size))]
+fn tag_size(tag: u8) -> Option<usize>
     ensures { result ≡ tag_size tag }
 {
-    if tag < 3 {
-        return 1;
+    match tag {
+        0 | 1 | 2 | 4 => Some(1),
+        3 => Some(2),
+        _ => None,
     }
-    if tag == 4 {
-        return 1;
+}
+
+// A slice: where the next one starts, and how many accounts it claims.
+#[derive(Clone, Copy)]
+struct Slice {
+    end: usize,
+    claims: usize,
+}
+
+// The slice at `at`: a known tag, and the length byte after it.
+fn slice_at(data: &[u8], at: usize) -> Option<Slice>
+    ensures { result ≡ slice_at «data».now at }
+{
+    if data.len() <= at {
+        return None;
     }
-    if tag == 3 {
-        return 2;
+    let size = tag_size(data[at])?;
+    if data.len() - at <= size {
+        return None;
     }
-    0
+    Some(Slice {
+        end: at + size + 1,
+        claims: usize::from(data[at + size]),
+    })
 }
 
 // Whether `count` slices from byte 28 on are whole, and claim no more than the remaining accounts.
+#[tactic(auto, using(crate::proofs::Slices::ended, crate::proofs::Slices::walked))]
 fn slices(data: &[u8], remaining: usize, count: usize) -> bool
     ensures { result ≡ slices_of «data».now remaining count 28 0 }
 {
     let mut at = 28;
     let mut used = 0;
-    let mut i = 0;
-    while i < count {
-        if data.len() <= at {
+    for _ in 0..count {
+        let Some(slice) = slice_at(data, at) else {
+            return false;
+        };
+        if remaining - used < slice.claims {
             return false;
         }
-        let size = tag_size(wire::byte(data, at));
-        if size == 0 {
-            return false;
-        }
-        if data.len() <= at + size {
-            return false;
-        }
-        let length = wire::byte(data, at + size) as usize;
-        if remaining - used < length {
-            return false;
-        }
-        used = used + length;
-        at = at + size + 1;
-        i += 1;
+        used += slice.claims;
+        at = slice.end;
     }
     true
 }
 
 // The slices of a v2 instruction.
+#[tactic(auto, unfolding(crate::specs::Dlmm::slices_fit))]
 fn slices_fit(n: usize, data: &[u8]) -> bool
     requires { 16 ≤ n }
     ensures { result ≡ slices_fit n «data».now }
@@ -61,60 +73,43 @@ fn slices_fit(n: usize, data: &[u8]) -> bool
         return false;
     }
     let count = wire::u32_at(data, 24) as usize;
-    if (data.len() - 28) / 2 < count {
-        return false;
-    }
-    slices(data, n - 16, count)
+    count <= (data.len() - 28) / 2 && slices(data, n - 16, count)
 }
 
 // `validate_swap_layout`, but for the price-impact forms, which make no leg.
-fn swap_layout(n: usize, data: &[u8]) -> bool
-    ensures { result ≡ swap_layout n «data».now }
+#[tactic(auto, unfolding(crate::specs::Data::is, crate::specs::Dlmm::swap_layout))]
+fn swap_layout(i: &Instruction, found: u64) -> bool
+    requires { discriminator i.now.bytes.now ≡ Some found }
+    ensures { result ≡ swap_layout (length i.now.accounts.now) i.now.bytes.now }
 {
-    if is_either(data, SWAP, SWAP_EXACT_OUT) {
-        if n < 15 {
-            return false;
-        }
-        return 24 <= data.len();
+    let n = i.accounts.len();
+    match found {
+        SWAP | SWAP_EXACT_OUT => 15 <= n && 24 <= i.bytes.len(),
+        SWAP2 | SWAP_EXACT_OUT2 => 16 <= n && slices_fit(n, i.bytes),
+        _ => false,
     }
-    if is_either(data, SWAP2, SWAP_EXACT_OUT2) {
-        if n < 16 {
-            return false;
-        }
-        return slices_fit(n, data);
-    }
-    false
 }
 
-fn draft(data: &[u8], exact: bool) -> Found
-    ensures { result ≡ dlmm_leg «data».now exact }
+#[tactic(auto, unfolding(crate::specs::Data::is, crate::specs::Dlmm::swap_layout, crate::specs::Dlmm::dlmm))]
+pub fn leg(i: &Instruction) -> Option<Swap>
+    ensures { result ≡ dlmm (length i.now.accounts.now) i.now.bytes.now }
 {
-    if data.len() < 24 {
-        return Found::Nothing;
+    let found = i.discriminator()?;
+    if !swap_layout(i, found) {
+        return None;
     }
-    Found::Leg(stated(
-        7,
-        0,
-        10,
-        4,
-        5,
+    let exact = matches!(found, SWAP | SWAP2);
+    let (amount, threshold) = i.stated(8, exact)?;
+    Some(Swap {
+        protocol: Protocol::Dlmm,
+        pool: 0,
+        trader: 10,
+        input: 4,
+        output: 5,
         exact,
-        wire::u64_at(data, 8),
-        wire::u64_at(data, 16),
-    ))
-}
-
-pub fn leg(n: usize, data: &[u8]) -> Found
-    ensures { result ≡ dlmm n «data».now }
-{
-    if !swap_layout(n, data) {
-        return Found::Nothing;
-    }
-    if is_either(data, SWAP, SWAP2) {
-        return draft(data, true);
-    }
-    if is_either(data, SWAP_EXACT_OUT, SWAP_EXACT_OUT2) {
-        return draft(data, false);
-    }
-    Found::Nothing
+        amount,
+        threshold,
+        mode: None,
+        pair: None,
+    })
 }

@@ -1,82 +1,71 @@
 // Raydium LaunchLab.
 ghost use Rattle.std.specs.Prelude.{◌≡◌, length, take, drop};
-ghost use Rattle.ids.specs.Keys.{key_of, account as account_of};
-ghost use Rattle.swaps.specs.LaunchLab.{mode_of, launch_lab, launch_lab_leg};
+ghost use Rattle.ids.specs.Keys.{key_of, account};
+ghost use Rattle.swaps.specs.LaunchLab.{mode_of, launch_lab, launch_lab_form};
 
-use crate::Found;
 use crate::discriminators::{BUY_EXACT_IN, BUY_EXACT_OUT, SELL_EXACT_IN, SELL_EXACT_OUT};
-use crate::draft::{in_mode, pair_by, plain};
-use crate::fields::{account, choose, is, same_account};
+use crate::draft::{Form, in_order, pair_of};
+use crate::instruction::Instruction;
+use crate::{Mode, Protocol, Swap};
+
+#[tactic(auto, unfolding(crate::specs::Data::is))]
+fn form(i: &Instruction) -> Option<Form>
+    ensures { result ≡ launch_lab_form i.now.bytes.now }
+{
+    let (buy, exact) = match i.discriminator()? {
+        BUY_EXACT_IN => (true, true),
+        SELL_EXACT_IN => (false, true),
+        BUY_EXACT_OUT => (true, false),
+        SELL_EXACT_OUT => (false, false),
+        _ => return None,
+    };
+    Some(Form { buy, exact })
+}
 
 // The config that stands at a place of the names.
 fn config(names: &[u8], at: usize) -> &[u8]
     ensures { result.now ≡ take 32 (drop at names.now) }
 {
-    if names.len() <= at {
-        return &names[..0];
-    }
-    if names.len() - at < 32 {
-        return &names[at..];
-    }
-    &names[at..at + 32]
+    let rest = &names[at.min(names.len())..];
+    &rest[..rest.len().min(32)]
 }
 
 // The mode that a platform config stands for.
-fn mode(names: &[u8], key: &[u8]) -> u8
+#[tactic(auto, unfolding(crate::specs::LaunchLab::mode_of))]
+fn mode_of(names: &[u8], key: &[u8]) -> Option<Mode>
     ensures { result ≡ mode_of names.now key.now }
 {
     if wire::equal(key, config(names, 24)) {
-        return 1;
+        return Some(Mode::Standard);
     }
     if wire::equal(key, config(names, 56)) {
-        return 2;
+        return Some(Mode::Reward);
     }
-    0
-}
-
-// The mode of the instruction's config account.
-fn mode_of(names: &[u8], keys: &[u8], accounts: &[u8]) -> u8
-    ensures { result ≡ mode_of names.now (account_of (key_of keys.now) accounts.now 3) }
-{
-    let blank = [0u8; 32];
-    mode(names, account(keys, &blank, accounts, 3))
+    None
 }
 
 // The pair goes by the input's key, so equal token accounts flip it.
-fn draft(names: &[u8], keys: &[u8], accounts: &[u8], data: &[u8], buy: bool, exact: bool) -> Found
-    ensures { let a = account_of (key_of keys.now) accounts.now in
-        result ≡ launch_lab_leg names.now a «data».now buy exact }
+#[tactic(auto, unfolding(crate::specs::LaunchLab::launch_lab_leg, crate::specs::LaunchLab::launch_lab))]
+pub fn leg(names: &[u8], i: &Instruction) -> Option<Swap>
+    ensures { let a = account (key_of i.now.keys.now) i.now.accounts.now in
+        result ≡ launch_lab names.now a (length i.now.accounts.now) i.now.bytes.now }
 {
-    if data.len() < 24 {
-        return Found::Nothing;
+    if i.accounts.len() < 15 {
+        return None;
     }
-    let amount = wire::u64_at(data, 8);
-    let threshold = wire::u64_at(data, 16);
-    let mode = mode_of(names, keys, accounts);
-    let input = choose(buy, 6, 5);
-    let same = same_account(keys, accounts, input as usize, 6);
-    let s = plain(2, 4, 0, input, choose(buy, 5, 6), exact, amount, threshold);
-    Found::Leg(in_mode(mode, pair_by(same, 10, 9, s)))
-}
-
-pub fn leg(names: &[u8], keys: &[u8], accounts: &[u8], data: &[u8]) -> Found
-    ensures { let a = account_of (key_of keys.now) accounts.now in
-        result ≡ launch_lab names.now a (length accounts.now) «data».now }
-{
-    if accounts.len() < 15 {
-        return Found::Nothing;
-    }
-    if is(data, BUY_EXACT_IN) {
-        return draft(names, keys, accounts, data, true, true);
-    }
-    if is(data, SELL_EXACT_IN) {
-        return draft(names, keys, accounts, data, false, true);
-    }
-    if is(data, BUY_EXACT_OUT) {
-        return draft(names, keys, accounts, data, true, false);
-    }
-    if is(data, SELL_EXACT_OUT) {
-        return draft(names, keys, accounts, data, false, false);
-    }
-    Found::Nothing
+    let Form { buy, exact } = form(i)?;
+    let (amount, threshold) = i.numbers(8)?;
+    let (input, output) = in_order(buy, 6, 5);
+    Some(Swap {
+        protocol: Protocol::LaunchLab,
+        pool: 4,
+        trader: 0,
+        input,
+        output,
+        exact,
+        amount,
+        threshold,
+        mode: mode_of(names, i.account(3)),
+        pair: Some(pair_of(i.same_account(input, 6), 10, 9)),
+    })
 }

@@ -10,23 +10,51 @@ mod cpmm;
 mod discriminators;
 mod dlmm;
 mod draft;
-mod fields;
+mod instruction;
 mod launchlab;
 mod orca;
 mod pumpfun;
 mod pumpswap;
 pub mod row;
 
-ghost use Rattle.std.specs.Prelude.{◌≡◌, length, get_or};
+ghost use Rattle.std.specs.Prelude.{◌≡◌, length};
 ghost use Rattle.ids.specs.Keys.{key_of, account};
-ghost use Rattle.swaps.specs.Swap.{trades as trades_of, by_program, indexed as indexed_of, leg_in_numbers};
+ghost use Rattle.swaps.specs.Swap.{trades as trades_of, by_program, indexes, leg_in_numbers};
 
 use ids::Id;
+use instruction::Instruction;
+
+// The eight protocols, with their numbers in a row.
+#[derive(Clone, Copy)]
+pub enum Protocol {
+    PumpSwap = 1,
+    LaunchLab = 2,
+    Cpmm = 3,
+    AmmV4 = 4,
+    Clmm = 5,
+    Orca = 6,
+    Dlmm = 7,
+    PumpFun = 8,
+}
+
+// What a LaunchLab pool's platform config stands for, with its number in a row.
+#[derive(Clone, Copy)]
+pub enum Mode {
+    Standard = 1,
+    Reward = 2,
+}
+
+// The accounts that are the mints of the input and of the output.
+#[derive(Clone, Copy)]
+pub struct Pair {
+    pub input: u8,
+    pub output: u8,
+}
 
 // A leg in numbers. Accounts are indexes of keys in what `leg` answers, and places among the instruction's accounts in a protocol's own function.
 #[derive(Clone, Copy)]
 pub struct Swap {
-    pub protocol: u8,
+    pub protocol: Protocol,
     pub pool: u8,
     pub trader: u8,
     pub input: u8,
@@ -34,103 +62,74 @@ pub struct Swap {
     pub exact: bool,
     pub amount: u64,
     pub threshold: u64,
-    pub mode: u8,
-    // Whether accounts `first` and `second` are the mints of the input and of the output.
-    pub paired: bool,
-    pub first: u8,
-    pub second: u8,
-}
-
-#[derive(Clone, Copy)]
-pub enum Found {
-    Nothing,
-    Leg(Swap),
+    pub mode: Option<Mode>,
+    pub pair: Option<Pair>,
 }
 
 // Whether a program is one of the eight protocols: no other has a leg, so that its accounts and data need not be read.
+#[tactic(auto, unfolding(crate::specs::Swap::trades))]
 pub fn trades(id: Id) -> bool
     ensures { result ≡ trades_of id }
 {
-    match id {
-        Id::Clmm => true,
-        Id::Orca => true,
-        Id::Cpmm => true,
-        Id::Dlmm => true,
-        Id::LaunchLab => true,
-        Id::PumpFun => true,
-        Id::PumpSwap => true,
-        Id::AmmV4 => true,
-        Id::SplToken => false,
-        Id::Token2022 => false,
-        Id::WrappedSol => false,
-        Id::ComputeBudget => false,
-        Id::AssociatedToken => false,
-        Id::Memo => false,
-        Id::System => false,
-        Id::Other => false,
-        Id::Unresolved => false,
-    }
+    matches!(
+        id,
+        Id::Clmm
+            | Id::Orca
+            | Id::Cpmm
+            | Id::Dlmm
+            | Id::LaunchLab
+            | Id::PumpFun
+            | Id::PumpSwap
+            | Id::AmmV4
+    )
 }
 
 // The protocol's own function, by the program.
-fn by_program(names: &[u8], keys: &[u8], id: Id, accounts: &[u8], data: &[u8]) -> Found
-    ensures { let a = account (key_of keys.now) accounts.now in
-        result ≡ by_program names.now a id (length accounts.now) «data».now }
+#[tactic(auto, unfolding(crate::specs::Swap::by_program))]
+fn by_program(names: &[u8], id: Id, i: &Instruction) -> Option<Swap>
+    ensures { let a = account (key_of i.now.keys.now) i.now.accounts.now in
+        result ≡ by_program names.now a id (length i.now.accounts.now) i.now.bytes.now }
 {
     match id {
-        Id::Clmm => clmm::leg(accounts.len(), data),
-        Id::Orca => orca::leg(keys, accounts, data),
-        Id::Cpmm => cpmm::leg(names, accounts.len(), data),
-        Id::Dlmm => dlmm::leg(accounts.len(), data),
-        Id::LaunchLab => launchlab::leg(names, keys, accounts, data),
-        Id::PumpFun => pumpfun::leg(keys, accounts, data),
-        Id::PumpSwap => pumpswap::leg(names, keys, accounts, data),
-        Id::AmmV4 => amm_v4::leg(accounts.len(), data),
-        Id::SplToken => Found::Nothing,
-        Id::Token2022 => Found::Nothing,
-        Id::WrappedSol => Found::Nothing,
-        Id::ComputeBudget => Found::Nothing,
-        Id::AssociatedToken => Found::Nothing,
-        Id::Memo => Found::Nothing,
-        Id::System => Found::Nothing,
-        Id::Other => Found::Nothing,
-        Id::Unresolved => Found::Nothing,
+        Id::Clmm => clmm::leg(i),
+        Id::Orca => orca::leg(i),
+        Id::Cpmm => cpmm::leg(names, i),
+        Id::Dlmm => dlmm::leg(i),
+        Id::LaunchLab => launchlab::leg(names, i),
+        Id::PumpFun => pumpfun::leg(i),
+        Id::PumpSwap => pumpswap::leg(names, i),
+        Id::AmmV4 => amm_v4::leg(i),
+        _ => None,
     }
 }
 
-// The index byte at a place.
-fn index(accounts: &[u8], place: u8) -> u8
-    ensures { result ≡ get_or accounts.now place 0 }
-{
-    wire::byte(accounts, place as usize)
-}
-
 // Places become the index bytes that stand there.
-fn indexed(accounts: &[u8], found: Found) -> Found
-    ensures { result ≡ indexed_of accounts.now found }
+fn indexed(accounts: &[u8], s: Swap) -> Swap
+    ensures { result ≡ indexes accounts.now s }
 {
-    match found {
-        Found::Nothing => Found::Nothing,
-        Found::Leg(s) => Found::Leg(Swap {
-            protocol: s.protocol,
-            pool: index(accounts, s.pool),
-            trader: index(accounts, s.trader),
-            input: index(accounts, s.input),
-            output: index(accounts, s.output),
-            exact: s.exact,
-            amount: s.amount,
-            threshold: s.threshold,
-            mode: s.mode,
-            paired: s.paired,
-            first: index(accounts, s.first),
-            second: index(accounts, s.second),
+    let index = |place: u8| wire::byte(accounts, usize::from(place));
+    Swap {
+        pool: index(s.pool),
+        trader: index(s.trader),
+        input: index(s.input),
+        output: index(s.output),
+        pair: s.pair.map(|pair| Pair {
+            input: index(pair.input),
+            output: index(pair.output),
         }),
+        ..s
     }
 }
 
 // The leg of an instruction: 88 names, the key section, which program it is of, its index bytes, its data.
-pub fn leg(names: &[u8], keys: &[u8], id: Id, accounts: &[u8], data: &[u8]) -> Found
+pub fn leg(names: &[u8], keys: &[u8], id: Id, accounts: &[u8], data: &[u8]) -> Option<Swap>
     ensures { result ≡ leg_in_numbers names.now (key_of keys.now) id accounts.now «data».now }
 {
-    indexed(accounts, by_program(names, keys, id, accounts, data))
+    let instruction = Instruction {
+        keys,
+        accounts,
+        bytes: data,
+    };
+    let found = by_program(names, id, &instruction)?;
+    Some(indexed(accounts, found))
 }

@@ -1,70 +1,61 @@
 // PumpSwap. `BUY` is lent in the names.
 ghost use Rattle.std.specs.Prelude.{◌≡◌, length};
-ghost use Rattle.ids.specs.Keys.{key_of, account as account_of};
-ghost use Rattle.swaps.specs.PumpSwap.{pump_swap_takes, track_volume, pump_swap, pump_swap_leg};
+ghost use Rattle.ids.specs.Keys.{key_of, account};
+ghost use Rattle.swaps.specs.PumpSwap.{track_volume, pump_swap, pump_swap_form};
 
-use crate::Found;
 use crate::discriminators::{BUY_EXACT_QUOTE_IN, BUY_EXACT_QUOTE_IN_V2, BUY_V2, SELL, SELL_V2};
-use crate::draft::{pair_by, plain};
-use crate::fields::{choose, is_either, is_flag, same_account};
+use crate::draft::{Form, in_order, pair_of};
+use crate::instruction::Instruction;
+use crate::{Protocol, Swap};
 
-// Exactly 17 accounts, or 21 up.
-fn takes(n: usize) -> bool
-    ensures { result ≡ pump_swap_takes n }
+#[tactic(auto, unfolding(crate::specs::Data::is))]
+fn form(names: &[u8], i: &Instruction) -> Option<Form>
+    ensures { result ≡ pump_swap_form names.now i.now.bytes.now }
 {
-    if 21 <= n {
-        return true;
-    }
-    n == 17
+    let (buy, exact) = match i.discriminator()? {
+        BUY_EXACT_QUOTE_IN | BUY_EXACT_QUOTE_IN_V2 => (true, true),
+        found if found == wire::u64_at(names, 16) => (true, false),
+        BUY_V2 => (true, false),
+        SELL | SELL_V2 => (false, true),
+        _ => return None,
+    };
+    Some(Form { buy, exact })
 }
 
 // A buy's byte 24 is a flag where it is there; a sell's is not looked at.
-fn track_volume(data: &[u8], buy: bool) -> bool
-    ensures { result ≡ track_volume «data».now buy }
+#[tactic(auto, unfolding(crate::specs::PumpSwap::track_volume))]
+fn track_volume(i: &Instruction, buy: bool) -> bool
+    ensures { result ≡ track_volume i.now.bytes.now buy }
 {
-    if !buy {
-        return true;
-    }
-    if data.len() <= 24 {
-        return true;
-    }
-    is_flag(data, 24)
+    !buy || i.bytes.len() <= 24 || i.flag(24).is_some()
 }
 
-// The pair goes by the input's key, so equal token accounts flip it.
-fn draft(keys: &[u8], accounts: &[u8], data: &[u8], buy: bool, exact: bool) -> Found
-    ensures { let a = account_of (key_of keys.now) accounts.now in
-        result ≡ pump_swap_leg a «data».now buy exact }
+// Exactly 17 accounts, or 21 up. The pair goes by the input's key, so equal token accounts flip it.
+#[tactic(auto, unfolding(crate::specs::PumpSwap::pump_swap_leg, crate::specs::PumpSwap::pump_swap))]
+pub fn leg(names: &[u8], i: &Instruction) -> Option<Swap>
+    ensures { let a = account (key_of i.now.keys.now) i.now.accounts.now in
+        result ≡ pump_swap names.now a (length i.now.accounts.now) i.now.bytes.now }
 {
-    if !track_volume(data, buy) {
-        return Found::Nothing;
+    let n = i.accounts.len();
+    if n < 21 && n != 17 {
+        return None;
     }
-    if data.len() < 24 {
-        return Found::Nothing;
+    let Form { buy, exact } = form(names, i)?;
+    if !track_volume(i, buy) {
+        return None;
     }
-    let amount = wire::u64_at(data, 8);
-    let threshold = wire::u64_at(data, 16);
-    let input = choose(buy, 6, 5);
-    let same = same_account(keys, accounts, input as usize, 6);
-    let s = plain(1, 0, 1, input, choose(buy, 5, 6), exact, amount, threshold);
-    Found::Leg(pair_by(same, 4, 3, s))
-}
-
-pub fn leg(names: &[u8], keys: &[u8], accounts: &[u8], data: &[u8]) -> Found
-    ensures { let a = account_of (key_of keys.now) accounts.now in
-        result ≡ pump_swap names.now a (length accounts.now) «data».now }
-{
-    if !takes(accounts.len()) {
-        return Found::Nothing;
-    }
-    if is_either(data, BUY_EXACT_QUOTE_IN, BUY_EXACT_QUOTE_IN_V2) {
-        return draft(keys, accounts, data, true, true);
-    }
-    if is_either(data, wire::u64_at(names, 16), BUY_V2) {
-        return draft(keys, accounts, data, true, false);
-    }
-    if is_either(data, SELL, SELL_V2) {
-        return draft(keys, accounts, data, false, true);
-    }
-    Found::Nothing
+    let (amount, threshold) = i.numbers(8)?;
+    let (input, output) = in_order(buy, 6, 5);
+    Some(Swap {
+        protocol: Protocol::PumpSwap,
+        pool: 0,
+        trader: 1,
+        input,
+        output,
+        exact,
+        amount,
+        threshold,
+        mode: None,
+        pair: Some(pair_of(i.same_account(input, 6), 4, 3)),
+    })
 }

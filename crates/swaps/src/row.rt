@@ -1,13 +1,13 @@
 // A leg's row of table 3.
-ghost use Rattle.std.specs.Prelude.{◌≡◌, ◌&&◌, eqb};
+ghost use Rattle.std.specs.Prelude.{◌≡◌, ◌&&◌, option_map};
 ghost use Rattle.std.proofs.lemmas.List.Edits.{sets};
 ghost use Rattle.ids.specs.Keys.{key_of};
 ghost use Rattle.ids.specs.Mints.{mint_of, mint_field};
 ghost use Rattle.pack.specs.View.{pools_in};
-ghost use Rattle.swaps.specs.Leg.{contains, explicit, or_else, leg_with};
-ghost use Rattle.swaps.specs.Row.{bit as bit_of, key_bytes, end_bytes, leg_row, side as side_of};
+ghost use Rattle.swaps.specs.Leg.{contains, explicit, or_else, leg_with, is_cpmm};
+ghost use Rattle.swaps.specs.Row.{key_bytes, end_bytes, leg_row, side as side_of, protocol_number, mode_number};
 
-use crate::Swap;
+use crate::{Mode, Protocol, Swap};
 
 // The bytes of a row.
 pub const WIDTH: usize = 250;
@@ -16,85 +16,78 @@ pub const WIDTH: usize = 250;
 fn holds(pools: &[u8], key: &[u8]) -> bool
     ensures { result ≡ contains (pools_in pools.now) key.now }
 {
-    let rows = pools.len() / 32;
-    let mut i = 0;
-    while i < rows {
-        let at = i * 32;
-        if wire::equal(&pools[at..at + 32], key) {
-            return true;
-        }
-        i += 1;
-    }
-    false
+    pools.chunks_exact(32).any(|row| wire::equal(row, key))
 }
 
 // A CPMM pool that is among the graduated ones.
-fn graduated(protocol: u8, keys: &[u8], pool: u8, pools: &[u8]) -> bool
-    ensures { result ≡ (eqb protocol 3 && contains (pools_in pools.now) (key_of keys.now pool)) }
+#[tactic(auto, unfolding(ids::specs::Keys::zero_key))]
+fn graduated(leg: Swap, keys: &[u8], pools: &[u8]) -> bool
+    ensures { result ≡ (is_cpmm leg.protocol && contains (pools_in pools.now) (key_of keys.now leg.pool)) }
 {
-    if protocol != 3 {
-        return false;
-    }
-    let blank = [0u8; 32];
-    holds(pools, ids::key(keys, &blank, pool as usize))
+    matches!(leg.protocol, Protocol::Cpmm)
+        && holds(pools, ids::key(keys, &[0; 32], usize::from(leg.pool)))
 }
 
-// A test as a byte.
-fn bit(test: bool) -> u8
-    ensures { result ≡ bit_of test }
+// The number of a protocol.
+fn protocol_number(protocol: Protocol) -> u8
+    ensures { result ≡ protocol_number protocol }
 {
-    if test { 1 } else { 0 }
+    protocol as u8
+}
+
+// The number of a mode, 0 for none.
+fn mode_number(mode: Option<Mode>) -> u8
+    ensures { result ≡ mode_number mode }
+{
+    match mode {
+        None => 0,
+        Some(mode) => mode as u8,
+    }
 }
 
 // The five keys, from place 5 of a row on.
-fn put_keys(
-    row: &mut [u8],
-    keys: &[u8],
-    program: usize,
-    pool: u8,
-    trader: u8,
-    input: u8,
-    output: u8,
-)
+fn put_keys(row: &mut [u8], keys: &[u8], program: usize, leg: Swap)
     ensures { let key = key_of keys.now in
-        row.new ≡ sets row.old 5 (key_bytes (key program) (key pool) (key trader) (key input) (key output)) }
+        row.new ≡ sets row.old 5 (key_bytes (key program) (key leg.pool) (key leg.trader) (key leg.input) (key leg.output)) }
 {
     ids::put_key(row, 5, keys, program);
-    ids::put_key(row, 37, keys, pool as usize);
-    ids::put_key(row, 69, keys, trader as usize);
-    ids::put_key(row, 101, keys, input as usize);
-    ids::put_key(row, 133, keys, output as usize);
+    ids::put_key(row, 37, keys, usize::from(leg.pool));
+    ids::put_key(row, 69, keys, usize::from(leg.trader));
+    ids::put_key(row, 101, keys, usize::from(leg.input));
+    ids::put_key(row, 133, keys, usize::from(leg.output));
 }
 
 // The mint of one side: the known one, else the explicit pair's, else the stand-in.
-fn side<'a>(known: &'a [u8], paired: bool, key: &'a [u8], blank: &'a [u8]) -> &'a [u8]
-    ensures { result.now ≡ side_of known.now paired key.now blank.now }
+#[tactic(auto, unfolding(crate::specs::Row::side, ids::specs::Keys::zero_key))]
+fn side<'a>(known: &'a [u8], keys: &'a [u8], explicit: Option<u8>) -> &'a [u8]
+    ensures { result.now ≡ side_of known.now (option_map (key_of keys.now) explicit) }
 {
     if ids::is_mint(known) {
         return known;
     }
-    if paired { key } else { blank }
+    match explicit {
+        Some(index) => ids::key(keys, &[0; 32], usize::from(index)),
+        None => &[0; 32],
+    }
 }
 
 // Its flag and bytes.
-fn put_side<'a>(out: &mut [u8], at: usize, known: &'a [u8], keys: &'a [u8], paired: bool, index: u8)
-    ensures { let mint = or_else (mint_of known.now) (explicit paired (key_of keys.now index)) in
+fn put_side<'a>(out: &mut [u8], at: usize, known: &'a [u8], keys: &'a [u8], index: Option<u8>)
+    ensures { let mint = or_else (mint_of known.now) (explicit (key_of keys.now) index) in
         out.new ≡ sets out.old at (mint_field mint) }
 {
-    let blank = [0u8; 32];
-    let key = ids::key(keys, &blank, index as usize);
-    ids::put_mint(out, at, side(known, paired, key, &blank));
+    ids::put_mint(out, at, side(known, keys, index));
 }
 
 // What follows the mints, from place 231 of a row on.
-fn put_end(row: &mut [u8], exact: bool, amount: u64, threshold: u64, mode: u8, graduated: bool)
-    ensures { row.new ≡ sets row.old 231 (end_bytes exact amount threshold mode graduated) }
+fn put_end(row: &mut [u8], leg: Swap, graduated: bool)
+    ensures { row.new ≡ sets row.old 231 (end_bytes leg.exact leg.amount leg.threshold leg.mode graduated) }
 {
-    wire::put_byte(row, 231, bit(exact));
-    wire::put_u64(row, 232, amount);
-    wire::put_u64(row, 240, threshold);
-    wire::put_byte(row, 248, mode);
-    wire::put_byte(row, 249, bit(graduated));
+    wire::put_byte(row, 231, u8::from(leg.exact));
+    wire::put_u64(row, 232, leg.amount);
+    wire::put_u64(row, 240, leg.threshold);
+    wire::put_byte(row, 248, mode_number(leg.mode));
+    wire::put_byte(row, 249, u8::from(graduated));
 }
 
 // The row at `at`: the invocation's number, its program's index, its leg as `leg` answers it, the mints known of the input account and of the output
@@ -120,19 +113,16 @@ pub fn put_leg<'a>(
     }
     let mut row = [0u8; WIDTH];
     wire::put_u32(&mut row, 0, invocation);
-    wire::put_byte(&mut row, 4, leg.protocol);
-    put_keys(
-        &mut row, keys, program, leg.pool, leg.trader, leg.input, leg.output,
-    );
-    put_side(&mut row, 165, spent, keys, leg.paired, leg.first);
-    put_side(&mut row, 198, bought, keys, leg.paired, leg.second);
-    put_end(
+    wire::put_byte(&mut row, 4, protocol_number(leg.protocol));
+    put_keys(&mut row, keys, program, leg);
+    put_side(&mut row, 165, spent, keys, leg.pair.map(|pair| pair.input));
+    put_side(
         &mut row,
-        leg.exact,
-        leg.amount,
-        leg.threshold,
-        leg.mode,
-        graduated(leg.protocol, keys, leg.pool, pools),
+        198,
+        bought,
+        keys,
+        leg.pair.map(|pair| pair.output),
     );
+    put_end(&mut row, leg, graduated(leg, keys, pools));
     wire::put(out, at, &row);
 }

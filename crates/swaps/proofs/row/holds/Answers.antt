@@ -1,35 +1,14 @@
--- What the search answers from row i on is what it answers from the first: a turn finds the key, or passes a row that is another.
+-- The chunks are the rows, and the search asks each whether it is the key.
 -- Assumes nothing.
-use Rattle.swaps.proofs.Rows.{pool-here, pool-on, pool-none}
+use Rattle.std.proofs.Common.{rules, ◌∙◌, sym}
+use Rattle.std.proofs.lemmas.Iterator.Search.{any_from_yields_List}
+use Rattle.wire.specs.Same.{same}
 use Rattle.pack.specs.View.{pools_in}
-use Prim.Native.Nat.{◌/◌}
-use lib.ListN.{length}
-use mathlib.Core.Path.{sym, ◌∙◌}
-use native.Mathlib.Nat.{sub-zero, add-sub_cancel_left}
-use native.Mathlib.Omega.{arith}
+use Rattle.swaps.proofs.Pools.{contains-any, YieldsList-from_rows}
 use Rattle.swaps.proofs.row.holds.Goals as goal
-
-pub loop-i-init : goal.loop-i-init
-loop-i-init c = (omega arith, simp sub-zero)
-
-pub returns-then-equal : goal.returns-then-equal
-unfolding pools_in
-returns-then-equal c =
-    let l = c.loop-i in
-    let a = c.args in
-    let found = sym (rw add-sub_cancel_left at c.equal.ensures) ∙ c.if-equal.true in
-    sym (pool-here a.pools.now a.key.now (length a.pools.now / 32) l.i (omega arith) found) ∙ l.invariant.1
-
-pub loop-i-preserved : goal.loop-i-preserved
-loop-i-preserved c =
-    let l = c.loop-i in
-    let a = c.args in
-    let another = sym (rw add-sub_cancel_left at c.equal.ensures) ∙ c.if-equal.false in
-    (omega arith, pool-on a.pools.now a.key.now (length a.pools.now / 32) l.i (omega arith) another ∙ l.invariant.1)
 
 pub returns : goal.returns
 unfolding pools_in
 returns c =
-    let l = c.loop-i in
-    let a = c.args in
-    sym (pool-none a.pools.now a.key.now (length a.pools.now / 32) l.i (omega arith)) ∙ l.invariant.1
+    let found = any_from_yields_List (λ p. same p c.args.key.now) _ _ _ c.any.ensures.ran (YieldsList-from_rows _ c.chunks_exact.ensures.size) (λ x b q k. search rules) in
+    rw c.chunks_exact.ensures.rest at found ∙ sym (contains-any _ c.args.key.now)
