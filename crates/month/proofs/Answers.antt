@@ -4,6 +4,9 @@ use Rattle.wire.specs.Zeros.{zeros}
 use Rattle.month.specs.Report.{Report, used, fed_into}
 use Rattle.month.specs.Bytes.{transfer_at, transfers_to, transfers_in, good_table, rows_to, good_report, report_bytes, written_report, Books, stays, holds, feed}
 use Rattle.month.specs.Standing.{Bears, Stands}
+use Rattle.month.specs.Refusals.{number_of}
+use Rattle.month.specs.declared.Refusal.{Refusal}
+use Rattle.month.specs.declared.Refusal.TheVariants.{BadTransfers, BadReport, NoRoom, PastLimit}
 use Rattle.month.specs.Call.{Feeds}
 use Rattle.month.proofs.Bound.{widen}
 use Rattle.month.proofs.Reading.{rows_written}
@@ -77,6 +80,13 @@ outcome b n m t = ⊎_elim good-table (λ g. inl (19, omega arith, refused-19 b 
 
     good-table : good_table t ≡ true → Outcome b n m t
     good-table g = ⊎_elim (good-report g) (λ h. inl (20, omega arith, refused-20 b n m t g h)) (either (good_report b n m))
+
+-- no refusal has number 0
+pub number-not-0 : (r : Refusal) → number_of r ≡ 0 → ⊥
+number-not-0 BadTransfers e = omega arith
+number-not-0 BadReport e = omega arith
+number-not-0 NoRoom e = omega arith
+number-not-0 PastLimit e = omega arith
 
 -- the number tells which
 pub passed-zero : (b : List ℕ) (n m : ℕ) (t : List ℕ) → (feed b n m t).number ≡ 0 → Passed b n m t

@@ -1,6 +1,6 @@
 -- A table fed in parts: transfers may wait, since sums ask for no order, and rows without sums bring nothing.
 -- Assumes nothing.
-use Rattle.std.proofs.Common.{◌≡◌, ℕ, zero, suc, ◌+◌, ◌-◌, ◌*◌, ◌/◌, ◌<◌, ◌≤◌, Bool, true, false, cond, ◌⊎◌, List, [], ◌∷◌, ◌++◌, length, get_or, take, set, sym, refl, ap, ◌∙◌, inl, inr, append-nil, add-zero, add-suc, suc-add, add-one, arith, length-take-le, take_all, get_or-take, take-suc-set}
+use Rattle.std.proofs.Common.{◌≡◌, ℕ, zero, suc, ◌+◌, ◌-◌, ◌*◌, ◌/◌, ◌<◌, ◌≤◌, Bool, true, false, cond, ◌⊎◌, List, [], ◌∷◌, ◌++◌, length, get_or, take, set, sym, refl, ap, ◌∙◌, inl, inr, append-nil, add-zero, add-suc, suc-add, add-one, arith, length-take-le, take_all, take-suc-set}
 use mathlib.Core.List.Memᴰ
 use mathlib.Core.List.Permᴰ
 use mathlib.Core.List.{Memᴰ}
@@ -46,9 +46,8 @@ fed-behind : (r : Report) (x : FedTransfer) (ws : List FedTransfer) → fed_into
 fed-behind r x ws = sym (fed-fed r ws (x ∷ []))
 
 -- a transfer that waits is one of those that do
-at_there : (t wait : List ℕ) (count i : ℕ) → i < count → count ≤ length wait → Memᴰ (fed_at t (get_or wait i 0)) (transfers_at t (take count wait))
-at_there t wait count i h l =
-    Memᴰ.map (fed_at t) (Memᴰ.cast (sym (get_or-take count wait i 0 h)) (mem-at (take count wait) 0 i (omega (arith, length-take-le count wait l))))
+at_there : (t wait : List ℕ) (i : ℕ) → i < length wait → Memᴰ (fed_at t (get_or wait i 0)) (transfers_at t wait)
+at_there t wait i h = Memᴰ.map (fed_at t) (mem-at wait 0 i h)
 
 -- the transfers of a table, in parts
 from_more : (t : List ℕ) (i n : ℕ) → transfers_from t i (suc n) ≡ transfers_from t i n ++ (fed_at t (i + n) ∷ [])
@@ -190,19 +189,19 @@ pub stands-fed : (b : List ℕ) (n : ℕ) (r : Report) (ts : List FedTransfer) �
 stands-fed b n r ts h e = record { inside = h; sorted = rw e (fed-sorted r ts) }
 
 -- one of the waiting transfers posted: the report has its lines
-pub posted : (r cur next : Report) (t wait : List ℕ) (count i : ℕ) (b : Bool) → ((j : ℕ) → get_or t j 0 < 256) → i < count → count ≤ length wait → count ≤ 1024
-    → PlacesIn t (take count wait) → all_among (lines_in (transfers_at t (take count wait))) (lines_of r) ≡ true
-    → cur ≡ fed_into r (transfers_at t (take i wait)) → Bears (count - i) cur
+pub posted : (r cur next : Report) (t wait : List ℕ) (i : ℕ) (b : Bool) → ((j : ℕ) → get_or t j 0 < 256) → i < length wait → length wait ≤ 1024
+    → PlacesIn t wait → all_among (lines_in (transfers_at t wait)) (lines_of r) ≡ true
+    → cur ≡ fed_into r (transfers_at t (take i wait)) → Bears (length wait - i) cur
     → b ≡ has_all cur (fed_at t (get_or wait i 0)) → next ≡ cond b (fed_into cur (fed_at t (get_or wait i 0) ∷ [])) cur
-    → (next ≡ fed_into r (transfers_at t (take (i + 1) wait))) × Bears (count - (i + 1)) next
-posted r cur next t wait count i b bytes h l m places all ec w eb en =
+    → (next ≡ fed_into r (transfers_at t (take (i + 1) wait))) × Bears (length wait - (i + 1)) next
+posted r cur next t wait i b bytes h m places all ec w eb en =
     let x = fed_at t (get_or wait i 0) in
     let ws = transfers_at t (take i wait) in
-    let yes : b ≡ true = eb ∙ ap (λ (s : Report). has_all s x) ec ∙ has-still r ws (transfers_at t (take count wait)) x all (at_there t wait count i h l) in
+    let yes : b ≡ true = eb ∙ ap (λ (s : Report). has_all s x) ec ∙ has-still r ws (transfers_at t wait) x all (at_there t wait i h) in
     let e : next ≡ fed_into cur (x ∷ []) = en ∙ rw yes in (
       e ∙ ap (λ (s : Report). fed_into s (x ∷ [])) ec ∙ sym (fed-behind r x ws) ∙ ap (fed_into r) (sym (transfers-next t wait i (omega arith))),
-      rw e (bears-fed (count - (i + 1)) (transfer-formed t (get_or wait i 0 * 150) bytes (place_in t wait count i places l h)) (rw ec (fed-sorted r ws)) (omega arith)
-          (bears-less (suc (count - (i + 1))) (count - i) cur (omega arith) w)),
+      rw e (bears-fed (length wait - (i + 1)) (transfer-formed t (get_or wait i 0 * 150) bytes (place_in t wait i places h)) (rw ec (fed-sorted r ws)) (omega arith)
+          (bears-less (suc (length wait - (i + 1))) (length wait - i) cur (omega arith) w)),
     )
 
 -- a walk's step: the transfer at its place is posted, or it waits
@@ -246,24 +245,23 @@ from-none t i = let z : i - i ≡ 0 = omega arith in rw z
 module _
     (r : Report)
     (t wait ns : List ℕ)
-    (count k : ℕ)
-    (few : count ≤ 1024)
-    (there : count ≤ length wait)
-    (g : Entered t ns k (take 3072 (new_above (lines_of r) [] (lines_in (transfers_at t (take count wait)))))) where
-  numbered-fresh : lines_numbered t (take k ns) ≡ fresh r (transfers_at t (take count wait))
+    (k : ℕ)
+    (few : length wait ≤ 1024)
+    (g : Entered t ns k (take 3072 (new_above (lines_of r) [] (lines_in (transfers_at t wait))))) where
+  numbered-fresh : lines_numbered t (take k ns) ≡ fresh r (transfers_at t wait)
   numbered-fresh =
       g.entered
-      ∙ fresh-whole r (transfers_at t (take count wait)) (omega (arith, length-map (take count wait) (fed_at t), length-take-le count wait there))
+      ∙ fresh-whole r (transfers_at t wait) (omega (arith, length-map wait (fed_at t)))
 
-  pub admit-used : Sorted r → used r + k ≡ used (fed_into r (transfers_at t (take count wait)))
+  pub admit-used : Sorted r → used r + k ≡ used (fed_into r (transfers_at t wait))
   admit-used s =
       omega
-      (arith, fresh-used r (transfers_at t (take count wait)) s, ap (λ (l : List Line). length l) numbered-fresh, length-map (take k ns) (line_numbered t), length-take-le k ns g.holds_lines.held_most)
+      (arith, fresh-used r (transfers_at t wait) s, ap (λ (l : List Line). length l) numbered-fresh, length-map (take k ns) (line_numbered t), length-take-le k ns g.holds_lines.held_most)
 
   pub admit-out : (x : Line) → Memᴰ x (lines_numbered t (take k ns)) → among x (lines_of r) ≡ false
-  admit-out x i = fresh-out r (transfers_at t (take count wait)) x (rw numbered-fresh at i)
+  admit-out x i = fresh-out r (transfers_at t wait) x (rw numbered-fresh at i)
 
-  pub admit-rows : add_rows r (empty_rows (lines_numbered t (take k ns))) ≡ add_rows r (empty_rows (fresh r (transfers_at t (take count wait))))
+  pub admit-rows : add_rows r (empty_rows (lines_numbered t (take k ns))) ≡ add_rows r (empty_rows (fresh r (transfers_at t wait)))
   admit-rows = ap (λ (l : List Line). add_rows r (empty_rows l)) numbered-fresh
 
 -- a table up to a place, and to its end

@@ -1,6 +1,6 @@
 -- Transfers looked at one after the other leave the least new lines of all: each brings its lines, which are numbered three to a transfer.
 -- Assumes nothing.
-use Rattle.std.proofs.Common.{◌≡◌, ℕ, ◌+◌, ◌*◌, ◌<◌, ◌≤◌, true, false, List, [], ◌∷◌, ◌++◌, length, get_or, take, sym, append_assoc, append-nil, add-one, arith, length-take-le, get_or-take, take-suc}
+use Rattle.std.proofs.Common.{◌≡◌, ℕ, ◌+◌, ◌*◌, ◌<◌, ◌≤◌, true, false, List, [], ◌∷◌, ◌++◌, length, get_or, take, sym, append_assoc, append-nil, add-one, arith, take-suc}
 use mathlib.Core.List.Memᴰ
 use lib.Seq.{take-nil}
 use Rattle.wire.specs.Ascending.{asc_nil}
@@ -54,10 +54,8 @@ one-gathered {most} old bound ts x l e f = rw (l, e.entered, least-of old bound 
 pub transfers-next : (t places : List ℕ) (i : ℕ) → i < length places → transfers_at t (take (i + 1) places) ≡ transfers_at t (take i places) ++ (fed_at t (get_or places i 0) ∷ [])
 transfers-next t places i h = rw (add-one i, take-suc places i 0 h) (map-join (fed_at t) (take i places) (get_or places i 0 ∷ []))
 
-pub place_in : (t places : List ℕ) (n i : ℕ) → PlacesIn t (take n places) → n ≤ length places → i < n → get_or places i 0 * 150 + 150 ≤ length t
-place_in t places n i f h p =
-    let m = length-take-le n places h in
-    f (get_or places i 0) (rw (get_or-take n places i 0 p) at (mem-at (take n places) 0 i (omega arith)))
+pub place_in : (t places : List ℕ) (i : ℕ) → PlacesIn t places → i < length places → get_or places i 0 * 150 + 150 ≤ length t
+place_in t places i f p = f (get_or places i 0) (mem-at places 0 i p)
 
 pub transfers-more : (t : List ℕ) (i : ℕ) → transfers_to t (i + 1) ≡ transfers_to t i ++ (fed_at t i ∷ [])
 unfolding transfers_to

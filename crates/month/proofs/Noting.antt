@@ -1,13 +1,13 @@
 -- Lines held by their numbers: a number put in at the place of its line holds the line in its place, and what is behind the last that can be held goes.
 -- Assumes nothing.
-use Rattle.std.proofs.Common.{◌≡◌, ℕ, zero, suc, ◌+◌, ◌-◌, ◌*◌, ◌/◌, ◌<◌, ◌≤◌, Bool, true, false, ◌&&◌, ltb, ◌⊎◌, List, [], ◌∷◌, ◌++◌, map, length, get_or, take, drop, set, sym, refl, ap, ◌∙◌, ap₂, inl, inr, ⊎_elim, le_of_suc-le-suc, not-suc-le-zero, add-one, arith, length-append, length-drop, length-take, length-take-le, take_all, drop-cons, get_or-take, take-take, take_at, ltb-true, le-ltb, lt-ltb}
+use Rattle.std.proofs.Common.{◌≡◌, ℕ, zero, suc, ◌+◌, ◌-◌, ◌*◌, ◌/◌, ◌<◌, ◌≤◌, Bool, true, false, ◌&&◌, ltb, ◌⊎◌, List, [], ◌∷◌, ◌++◌, map, length, get_or, take, drop, set, sym, refl, ap, ◌∙◌, ap₂, inl, inr, ⊎_elim, le_of_suc-le-suc, not-suc-le-zero, add-one, arith, length-append, length-drop, length-take, length-take-le, take_all, get_or-take, take-take, take_at, ltb-true, le-ltb}
 use mathlib.Core.Logic.{⊎_map}
 use mathlib.Core.Bool.{and-false}
 use mathlib.Core.List.{Memᴰ}
 use lib.ListN.{length-map}
 use lib.Seq.{sets, sets-eq, take-append-add}
 use Rattle.wire.specs.Same.{same}
-use Rattle.wire.proofs.Sets.{sets-before, sets-front}
+use Rattle.wire.proofs.Sets.{sets-front}
 use Rattle.wire.specs.Order.{lt_key}
 use Rattle.wire.specs.Ascending.{Ascending}
 use Rattle.wire.proofs.Ascending.{put-mem}
@@ -15,23 +15,13 @@ use Rattle.month.specs.Transfers.{Line}
 use Rattle.month.specs.Report.{lines_of, enter}
 use Rattle.month.specs.Bytes.{rows_to}
 use Rattle.month.specs.Adding.{among}
-use Rattle.month.specs.Lookup.{line_numbered, lines_numbered, spot_of, place_of_line, least_with}
+use Rattle.month.specs.Lookup.{line_numbered, lines_numbered, spot_of, least_with}
 use Rattle.month.specs.Standing.{Held, Entered}
-use Rattle.month.proofs.Views.{lines-length, mem-at, drop-take}
+use Rattle.month.proofs.Views.{mem-at, drop-take}
 use Rattle.month.proofs.Least.{mem-take, take-ascends, enter-ascends}
-use Rattle.month.proofs.Spots.{spot-most, place-among, among-spot, enter-spot, enter-there}
+use Rattle.month.proofs.Spots.{spot-most, among-spot, enter-spot, enter-there}
 
--- elements moved up by one, the last ones first
-pub move-more : (o : List ℕ) (k i : ℕ) → 0 < i → i ≤ k → k < length o
-    → set (sets o (i + 1) (take (k - i) (drop i o))) (i - 1 + 1) (get_or (sets o (i + 1) (take (k - i) (drop i o))) (i - 1) 0) ≡ sets o (i - 1 + 1) (take (k - (i - 1)) (drop (i - 1) o))
-move-more o k i h p q =
-    let e : i - 1 + 1 ≡ i = omega arith in
-    let f : k - (i - 1) ≡ suc (k - i) = omega arith in
-    let g : suc (i - 1) ≡ i = omega arith in
-    rw (e, f, sets-before o (i + 1) (take (k - i) (drop i o)) (i - 1) (omega arith), drop-cons o (i - 1) 0 (omega arith), g)
-    (sets-front o (i + 1) i (take (k - i) (drop i o)) (get_or o (i - 1) 0) (omega arith))
-
--- one put in where they made room
+-- one put in where others made room
 pub moved : (o : List ℕ) (j k n : ℕ) → j ≤ k → k < length o
     → take (suc k) (set (sets o (j + 1) (take (k - j) (drop j o))) j n) ≡ take j o ++ (n ∷ take (k - j) (drop j o))
 moved o j k n h q =
@@ -190,20 +180,18 @@ module _ {t ns : List ℕ} {k : ℕ} (h : Held t ns k) (b : List ℕ) (rows : �
         holds_lines = h;
       }
 
-  pub note-old : place_of_line line (lines_of (rows_to b rows)) < rows → Noted t ns k b rows bound n ns k
-  note-old p =
-      let f : among line (lines_of (rows_to b rows)) ≡ true = rw (place-among line (lines_of (rows_to b rows)), lines-length b rows) (lt-ltb (place_of_line line (lines_of (rows_to b rows))) rows p) in
+  pub note-old : among line (lines_of (rows_to b rows)) ≡ true → Noted t ns k b rows bound n ns k
+  note-old f =
       record {
         entered = sym (not_new (length ns) (lines_of (rows_to b rows)) bound (line_numbered t n) (lines_numbered t (take k ns)) (rw e at f));
         holds_lines = h;
       }
 
   -- above the bound, and not in the report
-  module _ (f : lt_key bound line ≡ true) (p : rows ≤ place_of_line line (lines_of (rows_to b rows))) where
+  module _ (f : lt_key bound line ≡ true) (g : among line (lines_of (rows_to b rows)) ≡ false) where
     enters : least_with (length ns) (lines_of (rows_to b rows)) bound (line_numbered t n) (lines_numbered t (take k ns))
         ≡ take (length ns) (enter (line_numbered t n) (lines_numbered t (take k ns)))
     enters =
-        let g : among line (lines_of (rows_to b rows)) ≡ false = rw (place-among line (lines_of (rows_to b rows)), lines-length b rows) (le-ltb (place_of_line line (lines_of (rows_to b rows))) rows p) in
         least-enter (length ns) (lines_of (rows_to b rows)) bound (line_numbered t n) (lines_numbered t (take k ns)) (rw e at f) (rw e at g)
 
     module _ {j : ℕ} (q : j ≡ spot_of line (lines_numbered t (take k ns))) where

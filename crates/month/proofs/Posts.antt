@@ -1,37 +1,40 @@
 -- A transfer added to the rows of its lines: which rows it needs, that they can take it, and that what is left is the report with the transfer fed.
 -- Assumes nothing.
-use Rattle.std.proofs.Common.{◌≡◌, ℕ, ◌+◌, ◌-◌, ◌*◌, ◌^◌, ◌<◌, ◌≤◌, Bool, true, false, cond, ◌≢◌, List, [], ◌∷◌, length, get_or, sym, refl, ap, ◌∙◌, ap₂, le-add_right, arith, le-ltb, lt-ltb, leb-true}
+use Rattle.std.proofs.Common.{◌≡◌, ℕ, ◌+◌, ◌-◌, ◌*◌, ◌^◌, ◌<◌, ◌≤◌, Bool, true, false, cond, List, [], ◌∷◌, length, get_or, sym, refl, ap, ◌∙◌, ap₂, le-add_right, arith, leb-true, ltb-true}
+use Rattle.std.specs.Prelude.{Some}
 use Rattle.wire.specs.Le.{le}
 use Rattle.month.specs.Transfers.{FedTransfer, Line, summed, withheld, rest_of, own, source_line, destination_line, touched}
 use Rattle.month.specs.Sums.{Sums, Within}
 use Rattle.month.specs.Report.{Report, Sorted, lines_of, fed_into}
 use Rattle.month.specs.Adding.{add_row, among, whole_part, source_part, destination_part, apart_part}
 use Rattle.month.specs.Bytes.{transfer_at, rows_to}
-use Rattle.month.specs.Lookup.{fed_at, place_of_line, all_among, has_all}
+use Rattle.month.specs.Lookup.{fed_at, place_of_line, row_of, all_among, has_all}
 use Rattle.month.specs.Standing.{Bears, Takes, Stands}
 use Rattle.month.proofs.Adds.{sums-eq}
 use Rattle.month.proofs.Adding.{add-sorted}
 use Rattle.month.proofs.Feeding.{fed-one, fed-three}
 use Rattle.month.proofs.Bound.{AllWithin, widen, add-within}
 use Rattle.month.proofs.Views.{rows-length, lines-length}
-use Rattle.month.proofs.Spots.{place-most, place-line, place-among}
+use Rattle.month.proofs.Spots.{place-line, place-among, row-some}
 use Rattle.month.proofs.Numbered.{summed-fee, summed-rest}
 use Rattle.month.proofs.Posting.{add-keeps}
 
--- a line that was not found, and one that was
-module _ (b : List ℕ) (n : ℕ) (k : Line) (p : ℕ) (e : p ≡ place_of_line k (lines_of (rows_to b n))) where
-  pub lost : p ≡ n → among k (lines_of (rows_to b n)) ≡ false
-  lost q = place-among k (lines_of (rows_to b n)) ∙ le-ltb (place_of_line k (lines_of (rows_to b n))) (length (lines_of (rows_to b n))) (omega (arith, lines-length b n))
+-- a line that has a row
+module _ (b : List ℕ) (n : ℕ) (k : Line) {p : ℕ} (e : Some p ≡ row_of k (lines_of (rows_to b n))) where
+  pub found : among k (lines_of (rows_to b n)) ≡ true
+  found = (row-some k (lines_of (rows_to b n)) e).0
 
-  pub found_in : p ≢ n → p < n
-  found_in q = omega (arith, place-most k (lines_of (rows_to b n)), lines-length b n)
+  place : p ≡ place_of_line k (lines_of (rows_to b n))
+  place = (row-some k (lines_of (rows_to b n)) e).1
 
-  pub found : p ≢ n → among k (lines_of (rows_to b n)) ≡ true
-  found q = place-among k (lines_of (rows_to b n)) ∙ lt-ltb (place_of_line k (lines_of (rows_to b n))) (length (lines_of (rows_to b n))) (omega (arith, found_in q, lines-length b n))
+  below : place_of_line k (lines_of (rows_to b n)) < length (lines_of (rows_to b n))
+  below = ltb-true _ _ (sym (place-among k (lines_of (rows_to b n))) ∙ found)
 
-  pub found-line : p ≢ n → get_or (lines_of (rows_to b n)) p [] ≡ k
-  found-line q =
-      ap (λ (j : ℕ). get_or (lines_of (rows_to b n)) j []) e ∙ place-line k (lines_of (rows_to b n)) [] (omega (arith, found_in q, lines-length b n))
+  pub found_in : p < n
+  found_in = omega (arith, place, below, lines-length b n)
+
+  pub found-line : get_or (lines_of (rows_to b n)) p [] ≡ k
+  found-line = ap (λ (j : ℕ). get_or (lines_of (rows_to b n)) j []) place ∙ place-line k (lines_of (rows_to b n)) [] below
 
 -- whether all lines are there, line by line
 module _ (r : Report) (t : FedTransfer) where

@@ -1,5 +1,7 @@
 -- Where a line stands or belongs in lines that ascend: those before its spot are below it, the one at the spot is it, or it is not there. Assumes nothing.
-use Rattle.std.proofs.Common.{◌≡◌, ℕ, zero, suc, ◌<◌, ◌≤◌, Bool, true, false, cond, ◌&&◌, ◌||◌, ltb, List, [], ◌∷◌, ◌++◌, length, get_or, take, drop, sym, refl, ap, ◌∙◌, le_of_suc-le-suc, not-suc-le-zero, arith, le-ltb, lt-ltb}
+use Rattle.std.proofs.Common.{◌≡◌, ℕ, zero, suc, ◌-◌, ◌<◌, ◌≤◌, Bool, true, false, cond, ◌&&◌, ◌||◌, ltb, List, [], ◌∷◌, ◌++◌, length, get_or, take, drop, sym, refl, ap, ◌∙◌, le_of_suc-le-suc, not-suc-le-zero, arith, le-ltb, lt-ltb}
+use Rattle.std.specs.Prelude.{Some, None}
+use Rattle.std.specs.Option.{is_some}
 use mathlib.Core.Logic.{by_cases}
 use mathlib.Core.Bool.{false≢true}
 use mathlib.Core.List.{Memᴰ}
@@ -12,7 +14,7 @@ use Rattle.wire.proofs.Order.{below-differ, below-trans, Order, less, level, mor
 use Rattle.month.specs.Transfers.{Line}
 use Rattle.month.specs.Report.{enter}
 use Rattle.month.specs.Adding.{among}
-use Rattle.month.specs.Lookup.{spot_of, place_of_line}
+use Rattle.month.specs.Lookup.{spot_of, place_of_line, row_of}
 use Rattle.month.proofs.Rows.{among_in}
 use Rattle.month.proofs.Views.{mem-at, ascend-at}
 
@@ -83,6 +85,20 @@ spot-from k {l} d i s h n = go (lt_key (get_or l i d) k) refl
         over g = let z : ◌≡◌ {A = ℕ} 0 1 = omega arith in omega arith
     go false e = e
 
+-- where the line before is below and the line here is not, is the spot
+pub spot-met : (k : Line) {l : List Line} (d : Line) (p : ℕ) → Ascending (λ x. x) l → p ≤ length l → (0 < p → lt_key (get_or l (p - 1) d) k ≡ true) → (p < length l → lt_key (get_or l p d) k ≡ false)
+    → p ≡ spot_of k l
+spot-met k {l} d p s h before here =
+    let most = spot-most k l in
+    by_cases
+    (dec_lt p (spot_of k l))
+    (λ (g : p < spot_of k l). omega (arith, spot-low k l d p (here (omega arith))))
+    (λ (g : ¬ (p < spot_of k l)).
+    by_cases
+    (dec_lt 0 p)
+    (λ (q : 0 < p). omega (arith, spot-high k d (p - 1) s (omega arith) (before q)))
+    (λ (q : ¬ (0 < p)). omega arith))
+
 -- the test of membership, read
 pub among-true : (k : Line) (l : List Line) → among k l ≡ true → Memᴰ k l
 unfolding among
@@ -135,6 +151,31 @@ place_at k d (suc i) (asc_cons {r = x} {t = l} f s) h e =
     let b = f (get_or l i d) (mem-at l d i (le_of_suc-le-suc h)) in
     rw (same-ne {a = k} {b = x} (λ q. below-differ b (sym (e ∙ q)))) (ap suc (place_at k d i s (le_of_suc-le-suc h) e))
 
+-- a line has a row exactly where it is there; what the row tells, and that there is none
+pub row-is : (k : Line) (l : List Line) → is_some (row_of k l) ≡ among k l
+unfolding row_of
+row-is k l = go (among k l)
+  where
+    go : (b : Bool) → is_some (cond b (Some (place_of_line k l)) None) ≡ b
+    go true = refl
+    go false = refl
+
+pub row-none : (k : Line) (l : List Line) → None ≡ row_of k l → among k l ≡ false
+unfolding row_of
+row-none k l e = go (among k l) e
+  where
+    go : (b : Bool) → None ≡ cond b (Some (place_of_line k l)) None → b ≡ false
+    go false q = refl
+    go true q = cc
+
+pub row-some : (k : Line) (l : List Line) {p : ℕ} → Some p ≡ row_of k l → (among k l ≡ true) × (p ≡ place_of_line k l)
+unfolding row_of
+row-some k l {p} e = go (among k l) e
+  where
+    go : (b : Bool) → Some p ≡ cond b (Some (place_of_line k l)) None → (b ≡ true) × (p ≡ place_of_line k l)
+    go false q = cc
+    go true q = (refl, cc)
+
 module _ (k : Line) {l : List Line} (d : Line) (s : Ascending (λ x. x) l) where
   -- the line at the spot is it: that is its place
   pub place-spot : spot_of k l < length l → same k (get_or l (spot_of k l) d) ≡ true → place_of_line k l ≡ spot_of k l
@@ -165,6 +206,21 @@ module _ (k : Line) {l : List Line} (d : Line) (s : Ascending (λ x. x) l) where
       (λ (g : place_of_line k l < length l).
       absurd (false≢true (sym e ∙ same-eq (sym (ap (λ (j : ℕ). get_or l j d) (spot-place g) ∙ place-line k l d g)))))
       (λ (g : ¬ (place_of_line k l < length l)). omega (arith, place-most k l))
+
+  -- a line that is there has the row of its spot, any other none
+  pub row-spot : spot_of k l < length l → same k (get_or l (spot_of k l) d) ≡ true → row_of k l ≡ Some (spot_of k l)
+  unfolding row_of
+  row-spot h e =
+      let p = place-spot h e in
+      rw (place-among k l, p, lt-ltb _ _ h)
+
+  pub row-end : length l ≤ spot_of k l → row_of k l ≡ None
+  unfolding row_of
+  row-end h = rw (place-among k l, place_end h, le-ltb (length l) (length l) (omega arith))
+
+  pub row-other : same k (get_or l (spot_of k l) d) ≡ false → row_of k l ≡ None
+  unfolding row_of
+  row-other e = rw (place-among k l, place_other e, le-ltb (length l) (length l) (omega arith))
 
   -- whether a line is there, by the line at its spot
   pub among-spot : among k l ≡ ltb (spot_of k l) (length l) && same (get_or l (spot_of k l) d) k

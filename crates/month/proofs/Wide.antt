@@ -1,5 +1,6 @@
 -- A number added to one of 128 bits kept as two of 64. Assumes nothing.
-use Rattle.std.proofs.Common.{◌≡◌, ℕ, ◌+◌, ◌-◌, ◌*◌, ◌/◌, ◌%◌, ◌^◌, ◌<◌, ◌≤◌, ltb, List, ◌++◌, sym, ap, ◌∙◌, ap₂, lt_of_le_of_lt, lt_of_mul-lt-mul_right, arith, le-ltb, lt-ltb}
+use Rattle.std.proofs.Common.{◌≡◌, ℕ, ◌+◌, ◌-◌, ◌*◌, ◌/◌, ◌%◌, ◌^◌, ◌<◌, ◌≤◌, Bool, true, false, cond, ltb, List, ◌++◌, sym, refl, ap, ◌∙◌, ap₂, lt_of_le_of_lt, lt_of_mul-lt-mul_right, arith, le-ltb, lt-ltb}
+use mir.Val.{bool_byte}
 use mathlib.Core.Logic.{by_cases}
 use native.Mathlib.Decide.{dec_lt}
 use Rattle.wire.specs.Le.{le, le_bytes}
@@ -11,6 +12,14 @@ mod-small n h = omega arith
 
 mod-once : (n : ℕ) → 2 ^ 64 ≤ n → n < 2 * 2 ^ 64 → n % 2 ^ 64 ≡ n - 2 ^ 64
 mod-once n h k = omega arith
+
+-- the test whether a sum came out smaller, as a number, is the carry
+pub bool-carry : {sum first low : ℕ} (x : ℕ) → sum ≡ low_after low x → first ≡ low → bool_byte (ltb sum first) ≡ carry low x
+bool-carry {sum} {first} x e f = rw (← e, ← f) (go (ltb sum first))
+  where
+    go : (b : Bool) → bool_byte b ≡ cond b 1 0
+    go true = refl
+    go false = refl
 
 -- the carry tells which of the two it was
 pub carry-right : (low x : ℕ) → low < 2 ^ 64 → x < 2 ^ 64 → low_after low x + carry low x * 2 ^ 64 ≡ low + x

@@ -4,6 +4,7 @@
 --   Report     `report_of` a list of transfers; `fed_into`: transfers fed into a report
 --   Totals     totals over mint lines and account lines; `Balanced`
 --   Bytes      rows of 150 and of 118 bytes, the tests behind 19 and 20, and `feed`: the answer to a table
+--   Refusals   why a table is not fed, by its number
 --   Call       `Feeds`: what the call promises
 --   Months     `Calls`: calls one after the other, and the transfers that they fed
 -- For code: Adding (`add_row`: one line's part added to a report; `new_in`: how many lines are new), Wide (128 bits as two of 64),
@@ -17,5 +18,6 @@ pub mod Wide
 pub mod Bytes
 pub mod Lookup
 pub mod Standing
+pub mod Refusals
 pub mod Call
 pub mod Months

@@ -1,5 +1,5 @@
 -- For code: a transfer's lines by number, where a line stands or belongs in a list, and the lines that are new. Assumes nothing.
-use Rattle.std.specs.Prelude.{ℕ, zero, suc, ◌*◌, ◌/◌, ◌%◌, Bool, true, cond, not, ◌&&◌, List, [], ◌∷◌, map, take}
+use Rattle.std.specs.Prelude.{ℕ, zero, suc, ◌*◌, ◌/◌, ◌%◌, Bool, true, cond, not, ◌&&◌, List, [], ◌∷◌, map, take, Option, Some, None}
 use Rattle.wire.specs.Same.{same}
 use Rattle.wire.specs.Order.{lt_key}
 use Rattle.wire.specs.Tab.{tab}
@@ -43,6 +43,10 @@ spot_of k (x ∷ l) = cond (lt_key x k) (suc (spot_of k l)) 0
 unfoldable pub place_of_line : Line → List Line → ℕ
 place_of_line k [] = 0
 place_of_line k (x ∷ l) = cond (same k x) 0 (suc (place_of_line k l))
+
+-- the row of a line, where it stands in a list
+unfoldable pub row_of : Line → List Line → Option ℕ
+row_of k l = cond (among k l) (Some (place_of_line k l)) None
 
 -- whether all of some lines are among others
 unfoldable pub all_among : List Line → List Line → Bool

@@ -12,30 +12,13 @@ ghost use Rattle.month.specs.Standing.{Stands, Held};
 
 use crate::{LINE, ROW, line};
 
-// Moves the bytes between two places up, the last ones first and by eight, so that none is written over before it is read.
-fn shift(d: &mut [u8], from: usize, to: usize, by: usize)
-    requires { (from ≤ to) × (to + by ≤ length d.old) }
-    ensures { d.new ≡ sets d.old (from + by) (take (to - from) (drop from d.old)) }
-{
-    let mut i = to;
-    while 8 <= i - from {
-        i -= 8;
-        let word = wire::u64_at(d, i);
-        wire::put_u64(d, i + by, word);
-    }
-    while from < i {
-        i -= 1;
-        d[i + by] = d[i];
-    }
-}
-
 // Writes a row with a line and no sums.
 fn put_row(report: &mut [u8], at: usize, line: &[u8])
     requires { (at + 118 ≤ length report.old) × (length line.now ≡ 66) }
     ensures { report.new ≡ sets report.old at (line.now ++ zeros 52) }
 {
     wire::put(report, at, line);
-    wire::clear(&mut report[at + LINE..at + ROW]);
+    report[at + LINE..at + ROW].fill(0);
 }
 
 // Puts in an empty row for each of the first k lines, none of which the report has: the last one first, so that each row is moved once.
@@ -44,14 +27,11 @@ pub(crate) fn put_in(report: &mut [u8], rows: usize, t: &[u8], numbers: &[usize]
         × ((x : Line) → Memᴰ x (lines_numbered t.now (take k numbers.now)) → among x (lines_of (rows_to report.old rows)) ≡ false) }
     ensures { rows_to report.new (rows + k) ≡ add_rows (rows_to report.old rows) (empty_rows (lines_numbered t.now (take k numbers.now))) }
 {
-    let mut line = [0u8; 66];
     let mut i = rows;
-    let mut j = k;
-    while 0 < j {
-        line::put_line(&mut line, t, numbers[j - 1]);
+    for j in (0..k).rev() {
+        let line = line::numbered(t, numbers[j]);
         let place = line::spot(report, i, &line);
-        shift(report, place * ROW, i * ROW, j * ROW);
-        j -= 1;
+        report.copy_within(place * ROW..i * ROW, (place + j + 1) * ROW);
         put_row(report, (place + j) * ROW, &line);
         i = place;
     }

@@ -1,5 +1,5 @@
 // A table fed into a report that has room for it.
-ghost use Rattle.std.specs.Prelude.{◌≡◌, ◌+◌, ◌-◌, ◌*◌, ◌/◌, ◌<◌, ◌≤◌, true, length, take};
+ghost use Rattle.std.specs.Prelude.{◌≡◌, ◌+◌, ◌-◌, ◌*◌, ◌/◌, ◌<◌, ◌≤◌, true, length};
 ghost use Rattle.month.specs.Report.{used, lines_of, lines_in, fed_into};
 ghost use Rattle.month.specs.Bytes.{rows_to, transfers_in};
 ghost use Rattle.month.specs.Lookup.{transfers_at, all_among};
@@ -8,34 +8,30 @@ ghost use Rattle.month.specs.Standing.{Bears, Stands, PlacesIn, Walked};
 use crate::{TRANSFER, empty, new, sums};
 
 // Adds waiting transfers whose lines the report has.
-fn post_waiting(report: &mut [u8], rows: usize, t: &[u8], wait: &[usize], count: usize)
-    requires { Stands report.old rows × (count ≤ length wait.now) × (count ≤ 1024) × PlacesIn t.now (take count wait.now)
-        × Bears count (rows_to report.old rows)
-        × (all_among (lines_in (transfers_at t.now (take count wait.now))) (lines_of (rows_to report.old rows)) ≡ true) }
-    ensures { rows_to report.new rows ≡ fed_into (rows_to report.old rows) (transfers_at t.now (take count wait.now)) }
+fn post_waiting(report: &mut [u8], rows: usize, t: &[u8], wait: &[usize])
+    requires { Stands report.old rows × (length wait.now ≤ 1024) × PlacesIn t.now wait.now × Bears (length wait.now) (rows_to report.old rows)
+        × (all_among (lines_in (transfers_at t.now wait.now)) (lines_of (rows_to report.old rows)) ≡ true) }
+    ensures { rows_to report.new rows ≡ fed_into (rows_to report.old rows) (transfers_at t.now wait.now) }
 {
-    let mut i = 0;
-    while i < count {
-        sums::post(report, rows, t, wait[i]);
-        i += 1;
+    for i in wait {
+        sums::post(report, rows, t, *i);
     }
 }
 
 // Makes rows for the lines that waiting transfers bring, and adds the transfers; answers how many rows there are then.
-fn admit(report: &mut [u8], rows: usize, t: &[u8], wait: &[usize], count: usize) -> usize
-    requires { Stands report.old rows × (count ≤ length wait.now) × (count ≤ 1024) × PlacesIn t.now (take count wait.now)
-        × Bears count (rows_to report.old rows)
-        × (used (fed_into (rows_to report.old rows) (transfers_at t.now (take count wait.now))) * 118 ≤ length report.old) }
-    ensures { (rows_to report.new result ≡ fed_into (rows_to report.old rows) (transfers_at t.now (take count wait.now)))
-        × (result ≡ used (fed_into (rows_to report.old rows) (transfers_at t.now (take count wait.now)))) }
+fn admit(report: &mut [u8], rows: usize, t: &[u8], wait: &[usize]) -> usize
+    requires { Stands report.old rows × (length wait.now ≤ 1024) × PlacesIn t.now wait.now × Bears (length wait.now) (rows_to report.old rows)
+        × (used (fed_into (rows_to report.old rows) (transfers_at t.now wait.now)) * 118 ≤ length report.old) }
+    ensures { (rows_to report.new result ≡ fed_into (rows_to report.old rows) (transfers_at t.now wait.now))
+        × (result ≡ used (fed_into (rows_to report.old rows) (transfers_at t.now wait.now))) }
 {
-    if count == 0 {
+    if wait.is_empty() {
         return rows;
     }
     let mut numbers = [0usize; 3072];
-    let k = new::gather(report, rows, t, wait, count, &mut numbers);
+    let k = new::gather(report, rows, t, wait, &mut numbers);
     empty::put_in(report, rows, t, &numbers, k);
-    post_waiting(report, rows + k, t, wait, count);
+    post_waiting(report, rows + k, t, wait);
     rows + k
 }
 
@@ -54,18 +50,16 @@ fn walk(report: &mut [u8], rows: usize, t: &[u8], from: usize, wait: &mut [usize
 {
     let n = t.len() / TRANSFER;
     let mut waiting = 0;
-    let mut i = from;
-    while i < n {
-        if wait.len() <= waiting {
-            break;
+    for i in from..n {
+        if waiting == wait.len() {
+            return Reached { to: i, waiting };
         }
         if !sums::post(report, rows, t, i) {
             wait[waiting] = i;
             waiting += 1;
         }
-        i += 1;
     }
-    Reached { to: i, waiting }
+    Reached { to: n, waiting }
 }
 
 // Feeds a table; answers how many rows there are then.
@@ -80,7 +74,7 @@ pub(crate) fn feed(report: &mut [u8], rows: usize, t: &[u8]) -> usize
     let mut from = 0;
     while from < t.len() / TRANSFER {
         let walked = walk(report, used, t, from, &mut wait);
-        used = admit(report, used, t, &wait, walked.waiting);
+        used = admit(report, used, t, &wait[..walked.waiting]);
         from = walked.to;
     }
     used

@@ -12,17 +12,11 @@ pub(crate) fn table(t: &[u8]) -> bool
     if t.len() % TRANSFER != 0 {
         return false;
     }
-    let n = t.len() / TRANSFER;
-    let mut i = 0;
-    while i < n {
+    for i in 0..t.len() / TRANSFER {
         let at = i * TRANSFER;
-        if 1 < t[at + 100] {
+        if 1 < t[at + 100] || 1 < t[at + 141] {
             return false;
         }
-        if 1 < t[at + 141] {
-            return false;
-        }
-        i += 1;
     }
     true
 }
@@ -40,22 +34,12 @@ fn row(report: &[u8], at: usize, fed: u32) -> bool
     requires { at + 118 ≤ length report.now }
     ensures { result ≡ good_row fed (report_row_at report.now at) }
 {
-    if 1 < report[at] {
-        return false;
-    }
-    if 1 < report[at + 33] {
-        return false;
-    }
-    if !small(report, at + 66) {
-        return false;
-    }
-    if !small(report, at + 82) {
-        return false;
-    }
-    if !small(report, at + 98) {
-        return false;
-    }
-    wire::u32_at(report, at + 114) <= fed
+    report[at] <= 1
+        && report[at + 33] <= 1
+        && small(report, at + 66)
+        && small(report, at + 82)
+        && small(report, at + 98)
+        && wire::u32_at(report, at + 114) <= fed
 }
 
 // Whether a report of so many rows, after so many transfers, is one that this library may have left.
@@ -65,14 +49,12 @@ pub(crate) fn report(report: &[u8], rows: usize, fed: u32) -> bool
     if report.len() / ROW < rows {
         return false;
     }
-    let mut i = 0;
-    while i < rows {
+    for i in 0..rows {
         let at = i * ROW;
         if !row(report, at, fed) {
             return false;
         }
-        i += 1;
-        if i < rows && !wire::less(&report[at..at + LINE], &report[at + ROW..at + ROW + LINE]) {
+        if i + 1 < rows && !wire::less(&report[at..at + LINE], &report[at + ROW..at + ROW + LINE]) {
             return false;
         }
     }

@@ -8,14 +8,16 @@
 mod empty;
 mod feed;
 mod good;
+mod half;
 mod line;
 mod new;
 mod room;
 mod sums;
 
-ghost use Rattle.std.specs.Prelude.{◌≡◌};
+ghost use Rattle.std.specs.Prelude.{◌≡◌, MatchResult};
 ghost use Rattle.month.specs.Bytes.{feed};
 ghost use Rattle.month.specs.Call.{Feeds};
+ghost use Rattle.month.specs.Refusals.{number_of};
 
 // Bytes of a row of a fed table, and of a row of a report and the line that it begins with.
 pub(crate) const TRANSFER: usize = 150;
@@ -37,41 +39,63 @@ pub struct MonthAnswer {
     pub fed: u32,
 }
 
-// The refusal that a call meets, 0 for none.
-fn judge(report: &[u8], rows: usize, fed: u32, transfers: &[u8]) -> u32
-    ensures { result ≡ (feed report.now rows fed transfers.now).number }
+// Why a table is not fed.
+#[derive(Clone, Copy)]
+enum Refusal {
+    BadTransfers,
+    BadReport,
+    NoRoom,
+    PastLimit,
+}
+
+impl Refusal {
+    fn number(self) -> u32
+        ensures { result ≡ number_of self }
+    {
+        match self {
+            Refusal::BadTransfers => 19,
+            Refusal::BadReport => 20,
+            Refusal::NoRoom => 9,
+            Refusal::PastLimit => 10,
+        }
+    }
+}
+
+// The refusal that a call meets, if it meets one.
+fn judge(report: &[u8], rows: usize, fed: u32, transfers: &[u8]) -> Result<(), Refusal>
+    ensures { MatchResult result (λ _. (feed report.now rows fed transfers.now).number ≡ 0)
+        (λ refusal. (feed report.now rows fed transfers.now).number ≡ number_of refusal) }
 {
     if !good::table(transfers) {
-        return 19;
+        return Err(Refusal::BadTransfers);
     }
     if !good::report(report, rows, fed) {
-        return 20;
+        return Err(Refusal::BadReport);
     }
     if room::full(report, rows, transfers) {
-        return 9;
+        return Err(Refusal::NoRoom);
     }
     let left = (LIMIT - fed) as usize;
     if left < transfers.len() / TRANSFER {
-        return 10;
+        return Err(Refusal::PastLimit);
     }
-    0
+    Ok(())
 }
 
 // Feeds a table into the report of `rows` rows and `fed` transfers, or refuses it and leaves everything as it stood.
 pub fn month(report: &mut [u8], rows: usize, fed: u32, transfers: &[u8]) -> MonthAnswer
     ensures { Feeds report.old rows fed transfers.now result report.new }
 {
-    let number = judge(report, rows, fed, transfers);
-    if number != 0 {
+    if let Err(refusal) = judge(report, rows, fed, transfers) {
         return MonthAnswer {
-            number,
+            number: refusal.number(),
             place: 0,
             rows: rows as u64,
             fed,
         };
     }
     let used = feed::feed(report, rows, transfers);
-    wire::clear(&mut report[used * ROW..]);
+    report[used * ROW..].fill(0);
     MonthAnswer {
         number: 0,
         place: 0,

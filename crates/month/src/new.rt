@@ -1,5 +1,6 @@
 // The lines that transfers bring to a report, by their numbers, ascending and each once.
 ghost use Rattle.std.specs.Prelude.{◌≡◌, suc, ◌+◌, ◌-◌, ◌*◌, ◌/◌, ◌<◌, ◌≤◌, Bool, ◌&&◌, [], ◌∷◌, ◌++◌, length, take, nat_lt, slice_index, slice_range};
+ghost use Rattle.wire.specs.Order.{lt_key};
 ghost use Rattle.wire.specs.Same.{same};
 ghost use Rattle.month.specs.Transfers.{touched};
 ghost use Rattle.month.specs.Report.{lines_of, lines_in};
@@ -7,6 +8,7 @@ ghost use Rattle.month.specs.Bytes.{rows_to};
 ghost use Rattle.month.specs.Lookup.{fed_at, transfers_at, line_numbered, lines_numbered, spot_of, least_with, least_of, new_above};
 ghost use Rattle.month.specs.Standing.{Stands, PlacesIn, Held, Entered};
 
+use crate::half::halved;
 use crate::line;
 
 // How many of the first k lines are below a line. They ascend, so it is found by halving.
@@ -14,19 +16,13 @@ pub(crate) fn spot(t: &[u8], numbers: &[usize], k: usize, line: &[u8]) -> usize
     requires { Held t.now numbers.now k }
     ensures { result ≡ spot_of line.now (lines_numbered t.now (take k numbers.now)) }
 {
-    let mut other = [0u8; 66];
-    let mut low = 0;
-    let mut high = k;
-    while low < high {
-        let middle = low + (high - low) / 2;
-        line::put_line(&mut other, t, numbers[middle]);
-        if wire::less(&other, line) {
-            low = middle + 1;
-        } else {
-            high = middle;
-        }
-    }
-    low
+    halved(
+        k,
+        |i|
+            requires { (i < length numbers.now) × (slice_index numbers.now i / 3 * 150 + 150 ≤ length t.now) }
+            ensures { result ≡ lt_key (line_numbered t.entry.now (slice_index numbers.entry.now i)) line.entry.now }
+        { wire::less(&line::numbered(t, numbers[i]), line) },
+    )
 }
 
 // Whether the line at place j of the first k is this one.
@@ -34,12 +30,7 @@ pub(crate) fn at_spot(t: &[u8], numbers: &[usize], k: usize, j: usize, line: &[u
     requires { Held t.now numbers.now k }
     ensures { result ≡ nat_lt j k && same (line_numbered t.now (slice_index numbers.now j)) line.now }
 {
-    if k <= j {
-        return false;
-    }
-    let mut other = [0u8; 66];
-    line::put_line(&mut other, t, numbers[j]);
-    wire::equal(&other, line)
+    j < k && wire::equal(&line::numbered(t, numbers[j]), line)
 }
 
 // Puts n in at place j of the first k.
@@ -47,11 +38,7 @@ fn insert(numbers: &mut [usize], j: usize, k: usize, n: usize)
     requires { (j ≤ k) × (k < length numbers.old) }
     ensures { take (suc k) numbers.new ≡ take j numbers.old ++ (n ∷ slice_range numbers.old j k) }
 {
-    let mut i = k;
-    while j < i {
-        i -= 1;
-        numbers[i + 1] = numbers[i];
-    }
+    numbers.copy_within(j..k, j + 1);
     numbers[j] = n;
 }
 
@@ -70,12 +57,11 @@ fn note(
         (least_with (length numbers.old) (lines_of (rows_to report.now rows)) bound.now
         (line_numbered t.now n) (lines_numbered t.now (take k numbers.old))) }
 {
-    let mut line = [0u8; 66];
-    line::put_line(&mut line, t, n);
+    let line = line::numbered(t, n);
     if !wire::less(bound, &line) {
         return k;
     }
-    if line::find(report, rows, &line) < rows {
+    if line::find(report, rows, &line).is_some() {
         return k;
     }
     let j = spot(t, numbers, k, &line);
@@ -119,19 +105,16 @@ pub(crate) fn gather(
     rows: usize,
     t: &[u8],
     wait: &[usize],
-    count: usize,
     numbers: &mut [usize],
 ) -> usize
-    requires { Stands report.now rows × (count ≤ length wait.now) × PlacesIn t.now (take count wait.now) }
+    requires { Stands report.now rows × PlacesIn t.now wait.now }
     ensures { Entered t.now numbers.new result
         (take (length numbers.old) (new_above (lines_of (rows_to report.now rows)) []
-        (lines_in (transfers_at t.now (take count wait.now))))) }
+        (lines_in (transfers_at t.now wait.now)))) }
 {
     let mut k = 0;
-    let mut i = 0;
-    while i < count {
-        k = note_lines(report, rows, t, wait[i], b"", numbers, k);
-        i += 1;
+    for i in wait {
+        k = note_lines(report, rows, t, *i, b"", numbers, k);
     }
     k
 }

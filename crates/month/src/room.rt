@@ -5,7 +5,7 @@ ghost use Rattle.month.specs.Bytes.{rows_to, transfers_in};
 ghost use Rattle.month.specs.Lookup.{new_above};
 ghost use Rattle.month.specs.Standing.{Stands, Entered};
 
-use crate::{ROW, TRANSFER, line, new};
+use crate::{LINE, ROW, TRANSFER, line, new};
 
 // The least lines above a bound that a table brings, as many as can be held; answers how many they are.
 fn least(report: &[u8], rows: usize, t: &[u8], bound: &[u8], numbers: &mut [usize]) -> usize
@@ -14,12 +14,9 @@ fn least(report: &[u8], rows: usize, t: &[u8], bound: &[u8], numbers: &mut [usiz
         (take (length numbers.old) (new_above (lines_of (rows_to report.now rows)) bound.now
         (lines_in (transfers_in t.now)))) }
 {
-    let n = t.len() / TRANSFER;
     let mut k = 0;
-    let mut i = 0;
-    while i < n {
+    for i in 0..t.len() / TRANSFER {
         k = new::note_lines(report, rows, t, i, bound, numbers, k);
-        i += 1;
     }
     k
 }
@@ -35,7 +32,7 @@ pub(crate) fn full(report: &[u8], rows: usize, t: &[u8]) -> bool
         return false;
     }
     let mut numbers = [0usize; 3072];
-    let mut last = [0u8; 66];
+    let mut last = [0; LINE];
     let mut width = 0;
     let mut fresh = 0;
     loop {
@@ -47,7 +44,7 @@ pub(crate) fn full(report: &[u8], rows: usize, t: &[u8]) -> bool
             return false;
         }
         fresh += k;
-        line::put_line(&mut last, t, numbers[k - 1]);
-        width = 66;
+        last = line::numbered(t, numbers[k - 1]);
+        width = LINE;
     }
 }

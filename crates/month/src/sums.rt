@@ -1,11 +1,11 @@
 // Sums of 128 bits, the low half first, and what a transfer adds to the rows of its lines.
-ghost use Rattle.std.specs.Prelude.{◌≡◌, ◌+◌, ◌*◌, ◌^◌, ◌<◌, ◌≤◌, [], ◌∷◌, length, if◌then◌else◌, slice_index_or};
+ghost use Rattle.std.specs.Prelude.{◌≡◌, ◌+◌, ◌*◌, ◌^◌, ◌<◌, ◌≤◌, ◌/◌, [], ◌∷◌, length, if◌then◌else◌, slice_index_or};
 ghost use Rattle.std.proofs.lemmas.List.Edits.{sets};
 ghost use Rattle.wire.specs.Le.{le, le_bytes};
 ghost use Rattle.month.specs.Report.{lines_of, fed_into};
 ghost use Rattle.month.specs.Adding.{add_row};
 ghost use Rattle.month.specs.Bytes.{rows_to};
-ghost use Rattle.month.specs.Lookup.{fed_at, has_all};
+ghost use Rattle.month.specs.Lookup.{fed_at, line_numbered, row_of, has_all};
 ghost use Rattle.month.specs.Standing.{Bears, Takes, Stands};
 
 use crate::{ROW, TRANSFER, line};
@@ -18,7 +18,7 @@ fn add_wide(d: &mut [u8], at: usize, x: u64)
     let low = wire::u64_at(d, at);
     let high = wire::u64_at(d, at + 8);
     let sum = std::num::wrapping_add_u64(low, x);
-    let carry = if sum < low { 1 } else { 0 };
+    let carry = u64::from(sum < low);
     wire::put_u64(d, at, sum);
     wire::put_u64(d, at + 8, high + carry);
 }
@@ -37,32 +37,33 @@ fn add(report: &mut [u8], rows: usize, place: usize, debit: u64, credit: u64, fe
     wire::put_u32(report, at + 114, before + apart);
 }
 
+// The row of line n of a table, where the report has it.
+fn row(report: &[u8], rows: usize, t: &[u8], n: usize) -> Option<usize>
+    requires { Stands report.now rows × (n / 3 * 150 + 150 ≤ length t.now) }
+    ensures { result ≡ row_of (line_numbered t.now n) (lines_of (rows_to report.now rows)) }
+{
+    line::find(report, rows, &line::numbered(t, n))
+}
+
 // Adds transfer i where the report has all its lines, and says whether it has.
 pub(crate) fn post(report: &mut [u8], rows: usize, t: &[u8], i: usize) -> bool
     requires { (i * 150 + 150 ≤ length t.now) × Stands report.old rows × Bears 1 (rows_to report.old rows) }
     ensures { (result ≡ has_all (rows_to report.old rows) (fed_at t.now i))
         × (rows_to report.new rows ≡ (if result then fed_into (rows_to report.old rows) (fed_at t.now i ∷ []) else rows_to report.old rows)) }
 {
-    let mut line = [0u8; 66];
-    line::put_line(&mut line, t, 3 * i);
-    let own = line::find(report, rows, &line);
-    if own == rows {
+    let Some(own) = row(report, rows, t, 3 * i) else {
         return false;
-    }
+    };
     if !line::is_summed(t, i) {
         add(report, rows, own, 0, 0, 0, 1);
         return true;
     }
-    line::put_line(&mut line, t, 3 * i + 1);
-    let source = line::find(report, rows, &line);
-    if source == rows {
+    let Some(source) = row(report, rows, t, 3 * i + 1) else {
         return false;
-    }
-    line::put_line(&mut line, t, 3 * i + 2);
-    let destination = line::find(report, rows, &line);
-    if destination == rows {
+    };
+    let Some(destination) = row(report, rows, t, 3 * i + 2) else {
         return false;
-    }
+    };
     let amount = wire::u64_at(t, i * TRANSFER + 133);
     let fee = wire::u64_at(t, i * TRANSFER + 142);
     add(report, rows, own, amount, amount - fee, fee, 0);

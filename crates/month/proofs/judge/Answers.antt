@@ -16,13 +16,13 @@ pub returns-then-not-table : goal.returns-then-not-table
 unfolding stays
 returns-then-not-table c =
     let a = c.args in
-    sym (ap (λ (x : Books). x.number) (refused-19 a.report.now a.rows a.fed a.transfers.now (sym c.table.ensures ∙ c.if-not-table.true)))
+    ap (λ (x : Books). x.number) (refused-19 a.report.now a.rows a.fed a.transfers.now (sym c.table.ensures ∙ c.if-not-table.true))
 
 pub returns-then-not-report : goal.returns-then-not-report
 unfolding stays
 returns-then-not-report c =
     let a = c.args in
-    sym (ap (λ (x : Books). x.number) (refused-20 a.report.now a.rows a.fed a.transfers.now (table_good (goal.at.returns-then-not-report c).Else-not-table) (sym c.report.ensures ∙ c.if-not-report.true)))
+    ap (λ (x : Books). x.number) (refused-20 a.report.now a.rows a.fed a.transfers.now (table_good (goal.at.returns-then-not-report c).Else-not-table) (sym c.report.ensures ∙ c.if-not-report.true))
 
 pub full-requires : goal.full-requires
 full-requires c =
@@ -33,13 +33,13 @@ pub returns-then-full : goal.returns-then-full
 unfolding stays
 returns-then-full c =
     let a = c.args in
-    sym (ap (λ (x : Books). x.number) (refused-9 a.report.now a.rows a.fed a.transfers.now (table_good (goal.at.returns-then-full c).Else-not-table) (report_good (goal.at.returns-then-full c).Else-not-report) (sym c.full.ensures ∙ c.if-full.true)))
+    ap (λ (x : Books). x.number) (refused-9 a.report.now a.rows a.fed a.transfers.now (table_good (goal.at.returns-then-full c).Else-not-table) (report_good (goal.at.returns-then-full c).Else-not-report) (sym c.full.ensures ∙ c.if-full.true))
 
 pub returns-then-left-transfers : goal.returns-then-left-transfers
 unfolding stays
 returns-then-left-transfers c =
     let a = c.args in
-    sym (ap (λ (x : Books). x.number) (refused-10 a.report.now a.rows a.fed a.transfers.now (table_good (goal.at.returns-then-left-transfers c).Else-not-table) (report_good (goal.at.returns-then-left-transfers c).Else-not-report) (sym c.full.ensures ∙ c.if-full.false) (lt-ltb 4294967295 (a.fed + length (transfers_in a.transfers.now)) (omega (arith, transfers-count a.transfers.now)))))
+    ap (λ (x : Books). x.number) (refused-10 a.report.now a.rows a.fed a.transfers.now (table_good (goal.at.returns-then-left-transfers c).Else-not-table) (report_good (goal.at.returns-then-left-transfers c).Else-not-report) (sym c.full.ensures ∙ c.if-full.false) (lt-ltb 4294967295 (a.fed + length (transfers_in a.transfers.now)) (omega (arith, transfers-count a.transfers.now))))
 
 pub returns : goal.returns
 unfolding holds
@@ -52,4 +52,4 @@ returns c =
       room = ltb-false _ _ (sym c.full.ensures ∙ c.if-full.false);
       limit = omega (arith, transfers-count a.transfers.now);
     } in
-    sym (ap (λ (x : Books). x.number) (passed-holds p))
+    ap (λ (x : Books). x.number) (passed-holds p)

@@ -11,12 +11,7 @@ use Rattle.month.proofs.empty.put_in.Given as goal
 
 abbrev pub invariant-loop-j : goal.invariant-loop-j
 invariant-loop-j l = (l.i ≤ l.rows)
-    × (l.j ≤ l.k)
-    × (length l.line ≡ 66)
     × (length l.report ≡ length l.initial.report)
     × Sorted (rows_to l.report l.i)
     × ((x : Line) → Memᴰ x (lines_numbered l.t (take l.k l.numbers)) → among x (lines_of (rows_to l.report l.i)) ≡ false)
     × (add_rows (rows_to l.report l.i) (empty_rows (lines_numbered l.t (take l.j l.numbers))) ++ drop (l.i + l.j) (rows_to l.report (l.rows + l.k)) ≡ add_rows (rows_to l.initial.report l.rows) (empty_rows (lines_numbered l.t (take l.k l.numbers))))
-
-abbrev pub decreases-loop-j : goal.decreases-loop-j
-decreases-loop-j l = l.j

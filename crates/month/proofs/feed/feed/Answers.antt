@@ -1,5 +1,5 @@
 -- Each turn feeds the transfers from one place to the next: a walk posts some, and those that wait are admitted.
-use Rattle.std.proofs.Common.{◌≡◌, ◌+◌, ◌-◌, ◌/◌, length, sym, refl, ap, ◌∙◌, arith}
+use Rattle.std.proofs.Common.{◌≡◌, ◌+◌, ◌-◌, ◌/◌, length, sym, refl, ap, ◌∙◌, length-take-le, arith}
 use Rattle.month.specs.Report.{Report, used, fed_into}
 use Rattle.month.specs.Bytes.{rows_to, transfers_to}
 use Rattle.month.specs.Lookup.{transfers_from}
@@ -56,19 +56,19 @@ walk-walked-requires c =
     )
 
 pub slice_bounds-admit-end : goal.slice_bounds-admit-end
-slice_bounds-admit-end c = sym (c.walk-walked.auto.wait ∙ c.loop-from.invariant.1)
+slice_bounds-admit-end c = let w = c.walk-walked in sym (length-take-le w.result.waiting w.new.wait w.ensures.wait_most)
 
 pub admit-used-requires : goal.admit-used-requires
 admit-used-requires c =
     let w = c.walk-walked in
     let l = c.loop-from in
     let a = c.args in
-    let p = c.requires in (
+    let p = c.requires in
+    let long = length-take-le w.result.waiting w.new.wait w.ensures.wait_most in (
       w.ensures.stands_after,
-      w.ensures.wait_most,
-      omega (arith, w.ensures.wait_most, w.auto.wait, l.invariant.1),
+      omega (arith, long, w.ensures.wait_most, w.auto.wait, l.invariant.1),
       w.ensures.wait_there,
-      bears-less w.result.waiting (length a.t.now / 150 - w.result.to + w.result.waiting) (rows_to w.new.report l.used) (omega arith) w.ensures.bears_after,
+      rw long (bears-less w.result.waiting (length a.t.now / 150 - w.result.to + w.result.waiting) (rows_to w.new.report l.used) (omega arith) w.ensures.bears_after),
       omega
           (arith, ap (λ (m : Report). used m) (w.ensures.fed_later ∙ (fed-on (goal.at.admit-used-requires c).After-walk-walked).0), room-part (old (goal.at.admit-used-requires c).After-walk-walked) a.t.now w.result.to w.ensures.in_table, p.3, l.invariant.2, w.auto.report),
     )

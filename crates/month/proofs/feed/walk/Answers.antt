@@ -18,7 +18,6 @@ loop-i-init c =
     let p = c.requires in
     let r = rows_to a.report.now a.rows in (
       omega arith,
-      omega (arith, p.1),
       omega arith,
       refl,
       refl,
@@ -34,8 +33,8 @@ post-requires c =
     let a = c.args in
     let p = c.requires in (
       omega arith,
-      record { inside = omega (arith, p.0.inside, l.invariant.4); sorted = l.invariant.7 },
-      bears-less 1 (length a.t.now / 150 - l.i + l.waiting) (rows_to l.report a.rows) (omega arith) l.invariant.8,
+      record { inside = omega (arith, p.0.inside, l.invariant.3); sorted = l.invariant.6 },
+      bears-less 1 (length a.t.now / 150 - l.i + l.waiting) (rows_to l.report a.rows) (omega arith) l.invariant.7,
     )
 
 pub loop-i-preserved : goal.loop-i-preserved
@@ -54,28 +53,26 @@ loop-i-preserved c =
           let e : next ≡ cur = q.ensures.1 ∙ rw w.if-not-post.true in
           rw (w.wait-is, w.waiting-is) (
             omega arith,
-            omega arith,
             omega (arith, length-set l.wait l.waiting l.i),
-            length-set l.wait l.waiting l.i ∙ l.invariant.3,
-            q.auto.report ∙ l.invariant.4,
-            places-more a.t.now l.wait l.waiting l.i (omega arith) (omega arith) l.invariant.5,
-            step_waits r cur next a.t.now l.wait a.from l.waiting l.i l.invariant.6 (omega arith) e (omega arith),
-            rw e l.invariant.7,
-            rw e (bears-less (n - (l.i + 1) + (l.waiting + 1)) (n - l.i + l.waiting) cur (omega arith) l.invariant.8),
+            length-set l.wait l.waiting l.i ∙ l.invariant.2,
+            q.auto.report ∙ l.invariant.3,
+            places-more a.t.now l.wait l.waiting l.i (omega arith) (omega arith) l.invariant.4,
+            step_waits r cur next a.t.now l.wait a.from l.waiting l.i l.invariant.5 (omega arith) e (omega arith),
+            rw e l.invariant.6,
+            rw e (bears-less (n - (l.i + 1) + (l.waiting + 1)) (n - l.i + l.waiting) cur (omega arith) l.invariant.7),
           )
       | else-not-post w ↦
           let e : next ≡ fed_into cur (x ∷ []) = q.ensures.1 ∙ rw w.if-not-post.false in
           rw (w.wait-is, w.waiting-is) (
             omega arith,
-            omega arith,
+            l.invariant.1,
             l.invariant.2,
-            l.invariant.3,
-            q.auto.report ∙ l.invariant.4,
-            l.invariant.5,
-            step-posts r cur next a.t.now l.wait a.from l.waiting l.i l.invariant.6 (omega arith) e,
+            q.auto.report ∙ l.invariant.3,
+            l.invariant.4,
+            step-posts r cur next a.t.now l.wait a.from l.waiting l.i l.invariant.5 (omega arith) e,
             rw e (fed-sorted cur (x ∷ [])),
-            rw e (bears-fed (n - (l.i + 1) + l.waiting) (transfer-formed a.t.now (l.i * 150) (λ j. omega (arith, c.type_inv.t j)) (omega arith)) l.invariant.7 (omega (arith, p.4))
-                (bears-less (suc (n - (l.i + 1) + l.waiting)) (n - l.i + l.waiting) cur (omega arith) l.invariant.8)),
+            rw e (bears-fed (n - (l.i + 1) + l.waiting) (transfer-formed a.t.now (l.i * 150) (λ j. omega (arith, c.type_inv.t j)) (omega arith)) l.invariant.6 (omega (arith, p.4))
+                (bears-less (suc (n - (l.i + 1) + l.waiting)) (n - l.i + l.waiting) cur (omega arith) l.invariant.7)),
           )
     ]
 
@@ -88,16 +85,18 @@ walked c h =
     let l = c.loop-i in
     record {
       further = h;
-      in_table = l.invariant.1;
-      wait_most = l.invariant.2;
-      wait_there = l.invariant.5;
-      fed_later = l.invariant.6;
-      stands_after = record { inside = omega (arith, c.requires.0.inside, l.invariant.4); sorted = l.invariant.7 };
-      bears_after = l.invariant.8;
+      in_table = omega arith;
+      wait_most = l.invariant.1;
+      wait_there = l.invariant.4;
+      fed_later = l.invariant.5;
+      stands_after = record { inside = omega (arith, c.requires.0.inside, l.invariant.3); sorted = l.invariant.6 };
+      bears_after = l.invariant.7;
     }
 
-pub returns-after-loop-i : goal.returns-after-loop-i
-returns-after-loop-i c = walked (goal.at.returns-after-loop-i c).At-loop-i (omega (arith, c.requires.1))
+pub returns : goal.returns
+returns c =
+    let e : c.loop-i.i ≡ length c.args.t.now / 150 = omega (arith, c.requires.1) in
+    rw e at (walked (goal.at.returns c).At-loop-i (omega (arith, c.requires.1)))
 
-pub returns-then-wait-waiting : goal.returns-then-wait-waiting
-returns-then-wait-waiting c = walked (goal.at.returns-then-wait-waiting c).At-loop-i (omega (arith, c.requires.2))
+pub returns-then-waiting-wait : goal.returns-then-waiting-wait
+returns-then-waiting-wait c = walked (goal.at.returns-then-waiting-wait c).At-loop-i (omega (arith, c.requires.2))

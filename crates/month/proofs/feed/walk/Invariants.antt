@@ -8,7 +8,6 @@ use Rattle.month.proofs.feed.walk.Given as goal
 
 abbrev pub invariant-loop-i : goal.invariant-loop-i
 invariant-loop-i l = (l.waiting + l.from ≤ l.i)
-    × (l.i ≤ length l.t / 150)
     × (l.waiting ≤ length l.wait)
     × (length l.wait ≡ length l.initial.wait)
     × (length l.report ≡ length l.initial.report)
@@ -16,6 +15,3 @@ invariant-loop-i l = (l.waiting + l.from ≤ l.i)
     × (fed_into (rows_to l.report l.rows) (transfers_at l.t (take l.waiting l.wait)) ≡ fed_into (rows_to l.initial.report l.rows) (transfers_from l.t l.from (l.i - l.from)))
     × Sorted (rows_to l.report l.rows)
     × Bears (length l.t / 150 - l.i + l.waiting) (rows_to l.report l.rows)
-
-abbrev pub decreases-loop-i : goal.decreases-loop-i
-decreases-loop-i l = length l.t / 150 - l.i

@@ -13,7 +13,7 @@ returns-then-report-rows c = simp (lt-leb _ _ c.if-report-rows.true)
 pub loop-i-init : goal.loop-i-init
 loop-i-init c =
     let a = c.args in
-    (omega arith, goods-none a.fed a.report.now, rises-none a.report.now, λ h. rises-one a.report.now)
+    (goods-none a.fed a.report.now, rises-none a.report.now, λ h. rises-one a.report.now)
 
 pub returns-then-not-row : goal.returns-then-not-row
 returns-then-not-row c =
@@ -34,16 +34,16 @@ loop-i-preserved c =
     let r = c.row in
     let b = a.report.now in
     let good : good_row a.fed (report_row_at b (l.i * 118)) ≡ true = sym r.ensures ∙ c.if-not-row.false in
-    let up : rises (rows_to b (suc l.i)) ≡ true = l.invariant.3 (omega arith) in
+    let up : rises (rows_to b (suc l.i)) ≡ true = l.invariant.2 (omega arith) in
     let next : l.i + 1 < a.rows → rises (rows_to b (suc (suc l.i))) ≡ true
     = λ h. elim c.else-i-rows.branch [
       | else-i-rows-via-then-i-rows+else-not-less w ↦ rises_next b l.i ∙ rw (up, ← lines_at b l.i, ← w.less.ensures) w.if-not-less.false
       | else-i-rows-via-else-i-rows w ↦ absurd (omega arith)
     ] in
-    rw (add-one l.i) (omega arith, goods-next a.fed b l.i ∙ rw (l.invariant.1, good), up, λ h. next (omega arith))
+    rw (add-one l.i) (goods-next a.fed b l.i ∙ rw (l.invariant.0, good), up, λ h. next (omega arith))
 
 pub returns : goal.returns
 returns c =
     let a = c.args in
     let l = c.loop-i in
-    sym (report-whole a.report.now a.rows a.fed l.i (omega arith) (omega arith) l.invariant.2 l.invariant.1)
+    sym (report-whole a.report.now a.rows a.fed l.i (omega arith) (omega arith) l.invariant.1 l.invariant.0)

@@ -1,18 +1,17 @@
 -- The new lines are those counted and those above the last one counted. They are too many as soon as more are held than there is room left for, and all are
 -- counted when fewer are held than can be.
 use Rattle.month.proofs.Counting.{rows-asked, new-few, new-all, held-least, held-last}
+use Rattle.month.proofs.Numbered.{numbered-long}
 use Rattle.month.proofs.Noting.{held_at}
 use Rattle.month.specs.Report.{lines_of, lines_in, used, fed_into}
 use Rattle.month.specs.Bytes.{rows_to, transfers_in}
-use Rattle.std.proofs.Common.{◌≡◌, ◌-◌, ◌/◌, ◌<◌, ◌≤◌, length, take, refl, ◌∙◌, arith, take_all, le-ltb, lt-ltb}
+use Rattle.std.proofs.Common.{◌≡◌, ◌-◌, ◌/◌, ◌<◌, ◌≤◌, length, get_or, take, refl, ◌∙◌, arith, take_all, le-ltb, lt-ltb}
 use native.Mathlib.Nat.{sub-zero}
 use Rattle.month.proofs.room.full.Goals as goal
 
--- src/room.rt:38:16
 pub overflow_sub-room : goal.overflow_sub-room
 overflow_sub-room c = omega (arith, c.requires.inside)
 
--- src/room.rt:40:9
 pub returns-then-t-room : goal.returns-then-t-room
 returns-then-t-room c =
     let a = c.args in
@@ -20,17 +19,14 @@ returns-then-t-room c =
     omega (arith, c.requires.inside, rows-asked a.report.now a.rows a.t.now c.requires, new-few a.report.now a.rows a.t.now) in
     rw (le-ltb _ _ h)
 
--- src/room.rt:46:5
 pub loop-fresh-init : goal.loop-fresh-init
 loop-fresh-init c =
     let a = c.args in
     (refl, refl, omega arith, omega arith, omega (arith, new-all a.report.now a.rows a.t.now))
 
--- src/room.rt:47:13
 pub least-k-requires : goal.least-k-requires
 least-k-requires c = c.requires
 
--- src/room.rt:49:13
 pub returns-then-room-fresh : goal.returns-then-room-fresh
 returns-then-room-fresh c =
     let a = c.args in
@@ -42,7 +38,6 @@ returns-then-room-fresh c =
     let h : length a.report.now / 118 < used (fed_into (rows_to a.report.now a.rows) (transfers_in a.t.now)) = omega (arith, c.requires.inside, r, m, l.invariant.0, l.invariant.3, l.invariant.4) in
     rw (lt-ltb _ _ h)
 
--- src/room.rt:52:13
 pub returns-then-k-lt3072 : goal.returns-then-k-lt3072
 returns-then-k-lt3072 c =
     let a = c.args in
@@ -54,21 +49,17 @@ returns-then-k-lt3072 c =
     let h : used (fed_into (rows_to a.report.now a.rows) (transfers_in a.t.now)) ≤ length a.report.now / 118 = omega (arith, c.requires.inside, r, m, l.invariant.0, l.invariant.3, l.invariant.4) in
     rw (le-ltb _ _ h)
 
--- src/room.rt:54:9
 pub overflow_add-fresh : goal.overflow_add-fresh
 overflow_add-fresh c = omega (arith, c.loop-fresh.invariant.3)
 
--- src/room.rt:55:38
 pub bounds-numbers-k : goal.bounds-numbers-k
 bounds-numbers-k c = omega (arith, c.least-k.ensures.holds_lines.held_most, c.least-k.auto.numbers, c.loop-fresh.invariant.0)
 
--- src/room.rt:55:9
-pub put_line-requires : goal.put_line-requires
-put_line-requires c =
+pub numbered-last-requires : goal.numbered-last-requires
+numbered-last-requires c =
     let s = c.least-k in
-    (c.loop-fresh.invariant.1, held_at s.ensures.holds_lines (s.result - 1) (omega arith))
+    held_at s.ensures.holds_lines (s.result - 1) (omega arith)
 
--- src/room.rt:46:5
 pub loop-fresh-smaller : goal.loop-fresh-smaller
 loop-fresh-smaller c =
     let a = c.args in
@@ -79,7 +70,6 @@ loop-fresh-smaller c =
     let m = held-least (lines_of (rows_to a.report.now a.rows)) (take l.width l.last) (lines_in (transfers_in a.t.now)) (length l.numbers) k in
     omega (arith, r, m, l.invariant.0, l.invariant.4)
 
--- src/room.rt:46:5
 pub loop-fresh-preserved : goal.loop-fresh-preserved
 loop-fresh-preserved c =
     let a = c.args in
@@ -88,8 +78,9 @@ loop-fresh-preserved c =
     let r = rows-asked a.report.now a.rows a.t.now c.requires in
     let k = simp sub-zero at s.ensures in
     let m = held-least (lines_of (rows_to a.report.now a.rows)) (take l.width l.last) (lines_in (transfers_in a.t.now)) (length l.numbers) k in
-    let p = c.put_line in
+    let p = c.numbered-last in
     let n = s.auto.numbers in
-    let w : length p.new.line ≡ 66 = p.auto.line ∙ l.invariant.1 in
+    let there = held_at s.ensures.holds_lines (s.result - 1) (omega arith) in
+    let w : length p.result ≡ 66 = rw p.ensures (numbered-long a.t.now (get_or s.new.numbers (s.result - 1) 0) there) in
     let e = held-last (lines_of (rows_to a.report.now a.rows)) (take l.width l.last) (lines_in (transfers_in a.t.now)) (length l.numbers) k n (omega arith) (omega (arith, l.invariant.0)) p.ensures in
-    (n ∙ l.invariant.0, w, omega arith, omega arith, rw (take_all 66 p.new.line (omega arith)) (omega (arith, e, l.invariant.4)))
+    (n ∙ l.invariant.0, w, omega arith, omega arith, rw (take_all 66 p.result (omega arith)) (omega (arith, e, l.invariant.4)))

@@ -6,34 +6,29 @@ use Rattle.month.specs.Lookup.{fed_at}
 use Rattle.std.proofs.Common.{◌≡◌, ◌/◌, length, refl, ◌∙◌, arith}
 use Rattle.month.proofs.room.least.Goals as goal
 
--- src/room.rt:25:5
 pub loop-i-init : goal.loop-i-init
 unfolding transfers_to
 loop-i-init c =
     let a = c.args in
-    (omega arith, refl, none-gathered a.t.now a.numbers.now (length a.numbers.now) (lines_of (rows_to a.report.now a.rows)) a.bound.now)
+    (refl, none-gathered a.t.now a.numbers.now (length a.numbers.now) (lines_of (rows_to a.report.now a.rows)) a.bound.now)
 
--- src/room.rt:26:9
 pub note_lines-k-requires : goal.note_lines-k-requires
 note_lines-k-requires c =
-    (c.requires, omega arith, c.loop-i.invariant.2.holds_lines)
+    (c.requires, omega arith, c.loop-i.invariant.1.holds_lines)
 
--- src/room.rt:25:5
 pub loop-i-preserved : goal.loop-i-preserved
 loop-i-preserved c =
     let a = c.args in
     let l = c.loop-i in
     let n = c.note_lines-k in (
-      omega arith,
-      n.auto.numbers ∙ l.invariant.1,
+      n.auto.numbers ∙ l.invariant.0,
       rw (transfers-more a.t.now l.i)
-          (one-gathered (lines_of (rows_to a.report.now a.rows)) a.bound.now (transfers_to a.t.now l.i) (fed_at a.t.now l.i) l.invariant.1 l.invariant.2 n.ensures),
+          (one-gathered (lines_of (rows_to a.report.now a.rows)) a.bound.now (transfers_to a.t.now l.i) (fed_at a.t.now l.i) l.invariant.0 l.invariant.1 n.ensures),
     )
 
--- src/room.rt:16:1
 pub returns : goal.returns
 unfolding transfers_in
 returns c =
     let l = c.loop-i in
     let e : l.i ≡ length c.args.t.now / 150 = omega arith in
-    rw e at l.invariant.2
+    rw e at l.invariant.1

@@ -3,11 +3,8 @@ use Rattle.month.specs.Report.{lines_of, lines_in}
 use Rattle.month.specs.Bytes.{rows_to, transfers_to}
 use Rattle.month.specs.Lookup.{new_above}
 use Rattle.month.specs.Standing.{Entered}
-use Rattle.std.proofs.Common.{◌≡◌, ◌-◌, ◌≤◌, length, take}
+use Rattle.std.proofs.Common.{◌≡◌, length, take}
 use Rattle.month.proofs.room.least.Given as goal
 
 abbrev pub invariant-loop-i : goal.invariant-loop-i
-invariant-loop-i l = (l.i ≤ l.n) × (length l.numbers ≡ length l.initial.numbers) × Entered l.t l.numbers l.k (take (length l.initial.numbers) (new_above (lines_of (rows_to l.report l.rows)) l.bound (lines_in (transfers_to l.t l.i))))
-
-abbrev pub decreases-loop-i : goal.decreases-loop-i
-decreases-loop-i l = l.n - l.i
+invariant-loop-i l = (length l.numbers ≡ length l.initial.numbers) × Entered l.t l.numbers l.k (take (length l.initial.numbers) (new_above (lines_of (rows_to l.report l.rows)) l.bound (lines_in (transfers_to l.t l.i))))
