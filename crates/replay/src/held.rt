@@ -1,206 +1,152 @@
 // One stored answer, held against the call.
-ghost use Rattle.std.specs.Prelude.{◌≤◌};
 
+use records::{Call, TooLong, Unfit};
 use route::{Answer, width};
+use std::alloc::{AllocError, Global};
+use std::fmt;
+use std::fmt::Display;
 
-// What an answer differs in from the stored one.
-#[derive(Clone, Copy)]
-pub(crate) enum Found {
-    Same,
+/// What an answer differs in from the stored one.
+#[derive(Clone, Copy, Debug, PartialEq, Eq)]
+pub(crate) enum Difference {
     Numbers,
-    Mints,
-    Invocations,
-    Transfers,
-    Legs,
-    Natives,
-    Unfit,
+    Table(u8),
+    Unfit(Unfit),
 }
 
-// 1 for a difference.
-pub(crate) fn count(found: Found) -> u32
-    ensures { result ≤ 1 }
-{
-    match found {
-        Found::Same => 0,
-        _ => 1,
+impl Display for Difference {
+    fn fmt<W: fmt::Write>(&self, f: &mut fmt::Formatter<W>) -> fmt::Result {
+        match self {
+            Difference::Numbers => write!(f, "other numbers"),
+            Difference::Table(number) => write!(f, "another table {number}"),
+            Difference::Unfit(unfit) => write!(f, "{unfit}"),
+        }
     }
 }
 
-// Fills a table with bytes that the call has to replace.
-fn fill(table: &mut [u8]) {
-    for i in 0..table.len() {
-        table[i] = 165;
+impl From<Unfit> for Difference {
+    fn from(unfit: Unfit) -> Difference {
+        Difference::Unfit(unfit)
     }
 }
 
-fn fill_all(
-    mints: &mut [u8],
-    invocations: &mut [u8],
-    transfers: &mut [u8],
-    legs: &mut [u8],
-    natives: &mut [u8],
-) {
-    fill(mints);
-    fill(invocations);
-    fill(transfers);
-    fill(legs);
-    fill(natives);
+/// The five tables that are lent.
+#[derive(Drop)]
+pub(crate) struct Tables {
+    mints: Vec<u8>,
+    invocations: Vec<u8>,
+    transfers: Vec<u8>,
+    legs: Vec<u8>,
+    natives: Vec<u8>,
 }
 
-// Whether the nine numbers are those at the start of what is stored.
-fn numbers(a: Answer, stored: &[u8]) -> bool {
-    if a.number != wire::u32_at(stored, 0) {
-        return false;
+impl Tables {
+    /// Room for the most rows that a pack can need with some bytes to spare.
+    pub(crate) fn new(alloc: Global) -> Result<Tables, AllocError> {
+        Ok(Tables {
+            mints: vec![in alloc; 0; 17408]?,
+            invocations: vec![in alloc; 0; 29696]?,
+            transfers: vec![in alloc; 0; 154624]?,
+            legs: vec![in alloc; 0; 257024]?,
+            natives: vec![in alloc; 0; 112640]?,
+        })
     }
-    if a.place != wire::u32_at(stored, 4) {
-        return false;
-    }
-    if a.mints != wire::u32_at(stored, 8) {
-        return false;
-    }
-    if a.invocations != wire::u32_at(stored, 12) {
-        return false;
-    }
-    if a.transfers != wire::u32_at(stored, 16) {
-        return false;
-    }
-    if a.legs != wire::u32_at(stored, 20) {
-        return false;
-    }
-    if a.natives != wire::u32_at(stored, 24) {
-        return false;
-    }
-    if a.passes != wire::u32_at(stored, 28) {
-        return false;
-    }
-    a.tests == wire::u32_at(stored, 32)
 }
 
-// The n bytes from `at` on; nothing where there are fewer.
-fn part<'a>(s: &'a [u8], at: usize, n: usize) -> &'a [u8] {
-    if s.len() < at {
-        return &s[0..0];
-    }
-    if s.len() - at < n {
-        return &s[0..0];
-    }
-    &s[at..at + n]
+// The nine numbers that are stored.
+fn numbers_of(stored: &[u8]) -> [u32; 9] {
+    [
+        wire::u32_at(stored, 0),
+        wire::u32_at(stored, 4),
+        wire::u32_at(stored, 8),
+        wire::u32_at(stored, 12),
+        wire::u32_at(stored, 16),
+        wire::u32_at(stored, 20),
+        wire::u32_at(stored, 24),
+        wire::u32_at(stored, 28),
+        wire::u32_at(stored, 32),
+    ]
 }
 
-// Whether every byte from `from` on is 0.
-fn zero_from(table: &[u8], from: usize) -> bool {
-    let mut all = 0u8;
-    for i in from..table.len() {
-        all = all | table[i];
-    }
-    all == 0
+fn numbers(a: &Answer) -> [u32; 9] {
+    [
+        a.number,
+        a.place,
+        a.mints,
+        a.invocations,
+        a.transfers,
+        a.legs,
+        a.natives,
+        a.passes,
+        a.tests,
+    ]
 }
 
-// Whether a table is n bytes of what is stored, those from `at` on, and then zeros.
-fn holds(table: &[u8], stored: &[u8], at: usize, n: usize) -> bool {
-    if table.len() < n {
-        return false;
-    }
-    if !wire::equal(&table[0..n], part(stored, at, n)) {
-        return false;
-    }
-    zero_from(table, n)
+// Whether a table is these rows and then zeros.
+fn holds(table: &[u8], rows: &[u8]) -> bool {
+    table
+        .strip_prefix(rows)
+        .is_some_and(|rest| rest.iter().all(|byte| *byte == 0))
 }
 
-// The nine numbers, then the rows of each table.
-fn compare(
-    a: Answer,
-    stored: &[u8],
-    mints: &[u8],
-    invocations: &[u8],
-    transfers: &[u8],
-    legs: &[u8],
-    natives: &[u8],
-) -> Found {
-    if !numbers(a, stored) {
-        return Found::Numbers;
+// The nine numbers, then the rows of each table: their bytes stand one behind the other.
+fn compare(a: &Answer, stored: &[u8], tables: [&[u8]; 5]) -> Result<(), Difference> {
+    if numbers(a) != numbers_of(stored) {
+        return Err(Difference::Numbers);
     }
-    let n0 = a.mints as usize * width::MINTS;
-    let n1 = a.invocations as usize * width::INVOCATIONS;
-    let n2 = a.transfers as usize * width::TRANSFERS;
-    let n3 = a.legs as usize * width::LEGS;
-    let n4 = a.natives as usize * width::NATIVES;
-    if !holds(mints, stored, 36, n0) {
-        return Found::Mints;
+    let lengths = [
+        a.mints as usize * width::MINTS,
+        a.invocations as usize * width::INVOCATIONS,
+        a.transfers as usize * width::TRANSFERS,
+        a.legs as usize * width::LEGS,
+        a.natives as usize * width::NATIVES,
+    ];
+    let mut rest = stored.get(36..).unwrap_or(&[]);
+    for number in 0..5u8 {
+        let different = Difference::Table(number);
+        let i = usize::from(number);
+        let (rows, behind) = rest.split_at_checked(lengths[i]).ok_or(different)?;
+        if !holds(tables[i], rows) {
+            return Err(different);
+        }
+        rest = behind;
     }
-    if !holds(invocations, stored, 36 + n0, n1) {
-        return Found::Invocations;
-    }
-    if !holds(transfers, stored, 36 + n0 + n1, n2) {
-        return Found::Transfers;
-    }
-    if !holds(legs, stored, 36 + n0 + n1 + n2, n3) {
-        return Found::Legs;
-    }
-    if !holds(natives, stored, 36 + n0 + n1 + n2 + n3, n4) {
-        return Found::Natives;
-    }
-    Found::Same
+    Ok(())
 }
 
-// The call, into tables as long as those that were lent for the stored answer.
-fn again(
-    names: &[u8],
-    pack: &[u8],
-    stored: &[u8],
-    mints: &mut [u8],
-    invocations: &mut [u8],
-    transfers: &mut [u8],
-    legs: &mut [u8],
-    natives: &mut [u8],
-) -> Found {
-    fill_all(mints, invocations, transfers, legs, natives);
-    let a = route::route(names, pack, mints, invocations, transfers, legs, natives);
-    compare(a, stored, mints, invocations, transfers, legs, natives)
+impl Call for Tables {
+    type Difference = Difference;
+
+    const LONGEST: u32 = 393216;
+
+    const LONGER: TooLong = TooLong::Skipped;
+
+    // The call is made into tables as long as those that were lent for the stored answer, full of bytes that it has to replace.
+    fn again(&mut self, record: &[u8]) -> Result<(), Difference> {
+        let from = 28 + wire::u32_at(record, 0) as usize;
+        let to = from + wire::u32_at(record, 4) as usize;
+        let stored = record.get(to..).ok_or(Unfit)?;
+        let mints = lent(&mut self.mints, wire::u32_at(record, 8))?;
+        let invocations = lent(&mut self.invocations, wire::u32_at(record, 12))?;
+        let transfers = lent(&mut self.transfers, wire::u32_at(record, 16))?;
+        let legs = lent(&mut self.legs, wire::u32_at(record, 20))?;
+        let natives = lent(&mut self.natives, wire::u32_at(record, 24))?;
+        let a = route::route(
+            &record[28..from],
+            &record[from..to],
+            mints,
+            invocations,
+            transfers,
+            legs,
+            natives,
+        );
+        compare(&a, stored, [mints, invocations, transfers, legs, natives])
+    }
 }
 
-// The call of a record, and what is stored of its answer.
-pub(crate) fn record(
-    bytes: &[u8],
-    mints: &mut [u8],
-    invocations: &mut [u8],
-    transfers: &mut [u8],
-    legs: &mut [u8],
-    natives: &mut [u8],
-) -> Found {
-    let l0 = wire::u32_at(bytes, 8) as usize;
-    let l1 = wire::u32_at(bytes, 12) as usize;
-    let l2 = wire::u32_at(bytes, 16) as usize;
-    let l3 = wire::u32_at(bytes, 20) as usize;
-    let l4 = wire::u32_at(bytes, 24) as usize;
-    if mints.len() < l0 {
-        return Found::Unfit;
-    }
-    if invocations.len() < l1 {
-        return Found::Unfit;
-    }
-    if transfers.len() < l2 {
-        return Found::Unfit;
-    }
-    if legs.len() < l3 {
-        return Found::Unfit;
-    }
-    if natives.len() < l4 {
-        return Found::Unfit;
-    }
-    let from = 28 + wire::u32_at(bytes, 0) as usize;
-    let to = from + wire::u32_at(bytes, 4) as usize;
-    if bytes.len() < to {
-        return Found::Unfit;
-    }
-    again(
-        &bytes[28..from],
-        &bytes[from..to],
-        &bytes[to..],
-        &mut mints[0..l0],
-        &mut invocations[0..l1],
-        &mut transfers[0..l2],
-        &mut legs[0..l3],
-        &mut natives[0..l4],
-    )
+// The first n bytes of a table, filled.
+fn lent(table: &mut [u8], n: u32) -> Result<&mut [u8], Unfit> {
+    let lent = table.get_mut(..n as usize).ok_or(Unfit)?;
+    lent.fill(165);
+    Ok(lent)
 }
