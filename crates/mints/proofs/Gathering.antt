@@ -58,7 +58,7 @@ module _ (ks p offsets : List ℕ) (i : ℕ) (few : key_count ks ≤ 256) {kept 
 
   -- one program more
   pub program-next : i < length offsets → (l : List Id) {u : List Id} → u ≡ sets l 0 (take i (programs_of ks p offsets)) → set u i id ≡ sets l 0 (take (i + 1) (programs_of ks p offsets))
-  program-next h l e = rw (e, program-is, ← kept-program ks p offsets i h) (store-more l (programs_of ks p offsets) i Unresolved (omega (arith, programs-length ks p offsets)))
+  program-next h l e = rw (e, program-is, ← kept-program ks p offsets i Unresolved h) (store-more l (programs_of ks p offsets) i Unresolved (omega (arith, programs-length ks p offsets)))
 
   pub token-is : {a d : List ℕ} {token : Option Token} → a ≡ (instruction_at p (get_or offsets i 0)).accounts → d ≡ (instruction_at p (get_or offsets i 0)).bytes → token ≡ token_of id (length a) d → token ≡ token_at ks p (get_or offsets i 0)
   unfolding token_at

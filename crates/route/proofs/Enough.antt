@@ -14,8 +14,7 @@ use Rattle.ids.specs.Keys.{key_count, key_of}
 use Rattle.pack.specs.Sections.{section_of}
 use Rattle.pack.specs.View.{view_of}
 use Rattle.pack.specs.Flatten.{flatten}
-use Rattle.pack.specs.Verdict.{verdict, refusal_number, place_of}
-use Rattle.pack.specs.declared.Verdict.{Verdict}
+use Rattle.pack.specs.Verdict.{Verdict, verdict, refusal_number, place_of}
 use Rattle.pack.proofs.Sizes.{keys_length}
 use Rattle.evidence.specs.MintTable.{MintAnswer}
 use Rattle.evidence.proofs.Bound.{rows_bound}

@@ -4,17 +4,17 @@ use mathlib.Core.Path.{◌≡◌, refl, sym, ap, ◌∙◌}
 use mathlib.Core.Option.{Option, none, some}
 use mathlib.Core.List.{List, [], map}
 use Prim.Native.Nat.{ℕ, ◌-◌, ◌%◌, ◌≤◌}
-use native.Mathlib.Nat.{sub-zero, zero-add}
+use native.Mathlib.Nat.{sub-zero}
 use native.Mathlib.Omega.{arith}
 use borrow.Author.Tests.{eqb-true}
 use lib.ListN.{length, get_or, take, drop, replicate, length-replicate}
 use lib.Seq.{sets, length-sets, take_all, length-take-le, get_or-take}
 use Rattle.wire.proofs.Below.{and_left}
-use Rattle.wire.proofs.Sets.{sets-in}
+use Rattle.pack.proofs.Stores.{laid-at}
 use Rattle.wire.specs.Zeros.{zeros}
 use Rattle.ids.specs.Keys.{key_of, key_count}
 use Rattle.ids.specs.declared.Id.{Id}
-use Rattle.ids.specs.declared.Id.TheVariants.{Unresolved}
+use Rattle.ids.specs.declared.Id.TheVariants.{SplToken, Unresolved}
 use Rattle.pack.specs.Invocation.{Invocation, instruction_at, position_in_places}
 use Rattle.pack.specs.declared.position.Place.{Place}
 use Rattle.pack.specs.Sections.{section_of}
@@ -105,12 +105,11 @@ module _ (p : List ℕ) (n : ℕ) (at : List ℕ) (places : List Place) (e : ref
       let same : o ≡ sets t 0 (programs_of (section_of p 0) p (take n at)) =
       h ∙ rw (h0, keys-all, sub-zero n, take_all 1024 (take n at) (omega (arith, few, c))) in
       let m : length (programs_of (section_of p 0) p (take n at)) ≡ n = programs-length (section_of p 0) p (take n at) ∙ c in
-      let kept : get_or o i Unresolved ≡ get_or (programs_of (section_of p 0) p (take n at)) i Unresolved =
-      ap (λ (x : List Id). get_or x i Unresolved) same
-      ∙ ap (λ (k : ℕ). get_or (sets t 0 (programs_of (section_of p 0) p (take n at))) k Unresolved) (sym (zero-add i))
-      ∙ sets-in t 0 (programs_of (section_of p 0) p (take n at)) i (omega (arith, m)) (omega (arith, m, few)) in
+      let kept : get_or o i SplToken ≡ get_or (programs_of (section_of p 0) p (take n at)) i SplToken =
+      ap (λ (x : List Id). get_or x i SplToken) same
+      ∙ laid-at t (programs_of (section_of p 0) p (take n at)) i SplToken (omega (arith, m, few)) (omega (arith, m)) in
       kept
-      ∙ kept-program (section_of p 0) p (take n at) i (omega (arith, c))
+      ∙ kept-program (section_of p 0) p (take n at) i SplToken (omega (arith, c))
       ∙ ap (λ (x : ℕ). program_of (section_of p 0) (instruction_at p x)) (get_or-take n at i 0 l)
 
   -- what `infer` answers and leaves, when it is lent sections 0 and 1 and the first n offsets

@@ -19,7 +19,9 @@ use Rattle.subtrees.specs.Subtrees.{positions, filled, bits, has_transfer, has_s
 use Rattle.subtrees.specs.Blocks.{some_in}
 use Rattle.pack.specs.View.{pools_in}
 use Rattle.route.specs.Widths.{invocation_width, transfer_width, leg_width, action_width}
+use Rattle.std.specs.Prelude.{Result}
 use Rattle.route.specs.declared.Answer.{Answer}
+use Rattle.route.specs.declared.refusal.Refusal.{Refusal}
 use Rattle.route.specs.Arrays.{item_at, FillsEach}
 use Rattle.route.specs.Known.{Holds, Fills, Numbers}
 use Rattle.route.specs.Lay.{rows_of, placed}
@@ -67,7 +69,7 @@ pub record Kept (o0 o1 o2 o3 o4 t0 t1 t2 t3 t4 : List ℕ) : Type 0 where
   pub natives : length o4 ≡ length t4
 
 -- what the steps of `fill` promise once the mints are inferred: transfers, legs, actions, the rows of table 1, the answer
-pub record Steps (names p ms at : List ℕ) (programs : List Id) (places : List Place) (n room m passes : ℕ) (r : Answer) (t0 t1 t2 t3 t4 o0 o1 o2 o3 o4 reasons leg : List ℕ) (c2 c3 c4 tests : ℕ) : Type 0 where
+pub record Steps (names p ms at : List ℕ) (programs : List Id) (places : List Place) (n room m passes : ℕ) (r : Result Answer Refusal) (t0 t1 t2 t3 t4 o0 o1 o2 o3 o4 reasons leg : List ℕ) (c2 c3 c4 tests : ℕ) : Type 0 where
   pub few : n ≤ 1024
   pub known : Programs (section_of p 0) (item_at p at) n programs
   pub transfers : Fills ms p at (transfer_rows (section_of p 0)) transfer_width n c2 t2 o2
@@ -91,7 +93,7 @@ pub record Steps (names p ms at : List ℕ) (programs : List Id) (places : List 
   pub kept : Kept o0 o1 o2 o3 o4 t0 t1 t2 t3 t4
 
 -- n invocations by their arrays, with the rows of table 0 behind an array of final mints: the answer for m rows of table 0 and that many passes, and tables 1 to 4
-pub record Finished (names p at : List ℕ) (places : List Place) (n room m passes : ℕ) (l : Lent) (table : List MintRow) (r : Answer) (t1 t2 t3 t4 o1 o2 o3 o4 : List ℕ) : Type 0 where
+pub record Finished (names p at : List ℕ) (places : List Place) (n room m passes : ℕ) (l : Lent) (table : List MintRow) (r : Result Answer Refusal) (t1 t2 t3 t4 o1 o2 o3 o4 : List ℕ) : Type 0 where
   pub answer :
       r ≡ fits l room (record {
         number = 0;
@@ -110,7 +112,7 @@ pub record Finished (names p at : List ℕ) (places : List Place) (n room m pass
   pub legs : o3 ≡ placed leg_width 0 (rows_of (leg_rows_in names p table) 0 (tab (item_at p at) 0 n)) t3
   pub natives : o4 ≡ placed action_width 0 (rows_of (action_rows (section_of p 0) table) 0 (tab (item_at p at) 0 n)) t4
 
-pub finished : {names p ms at : List ℕ} {programs : List Id} {places : List Place} {n room m passes : ℕ} {r : Answer} {t0 t1 t2 t3 t4 o0 o1 o2 o3 o4 reasons leg : List ℕ} {c2 c3 c4 tests : ℕ}
+pub finished : {names p ms at : List ℕ} {programs : List Id} {places : List Place} {n room m passes : ℕ} {r : Result Answer Refusal} {t0 t1 t2 t3 t4 o0 o1 o2 o3 o4 reasons leg : List ℕ} {c2 c3 c4 tests : ℕ}
     → Steps names p ms at programs places n room m passes r t0 t1 t2 t3 t4 o0 o1 o2 o3 o4 reasons leg c2 c3 c4 tests
     → (table : List MintRow) → Holds ms (section_of p 0) table
     → Finished names p at places n room m passes (lent t0 t1 t2 t3 t4) table r t1 t2 t3 t4 o1 o2 o3 o4

@@ -2,7 +2,7 @@
 -- both go by it, so they agree.
 -- Assumes nothing.
 use mathlib.Core.Path.{◌≡◌, refl}
-use mathlib.Core.Bool.{Bool, true, false, cond}
+use mathlib.Core.Bool.{Bool, true, false, cond, false≢true}
 use mathlib.Core.Option.{Option, none, some}
 use Prim.Native.Nat.{ℕ, ◌/◌, ◌≤◌, ◌<◌}
 use native.Mathlib.Omega.{arith}
@@ -12,7 +12,10 @@ use Rattle.route.specs.Widths.{mint_width, invocation_width, transfer_width, leg
 use Rattle.route.specs.declared.Answer.{Answer}
 use Rattle.route.specs.Tables.{Tables}
 use Rattle.route.specs.Route.{Lent, refused, accepted, too_small, by_room, fitted}
-use Rattle.route.specs.Fit.{refusal, fits}
+use Rattle.std.specs.Prelude.{Result, Ok, Err, IsOk}
+use Rattle.route.specs.declared.refusal.Refusal.{Refusal}
+use Rattle.route.specs.declared.refusal.Refusal.TheVariants.{Room as Short}
+use Rattle.route.specs.Fit.{answered, fits}
 
 -- every table has room for its rows, and table 0 for ambiguous accounts too
 pub record Roomy (l : Lent) (room : ℕ) (a : Answer) : Type 0 where
@@ -65,20 +68,20 @@ measured l room a =
 
 module _ (t : Tables) (l : Lent) where
   -- the answer of the definition is that of the code
-  pub fit-answer : (fitted t l).answer ≡ fits l t.room (accepted t l).answer
+  pub fit-answer : (fitted t l).answer ≡ answered (fits l t.room (accepted t l).answer)
   unfolding fitted fits refused
   fit-answer = go (too_small l t.room (accepted t l).answer)
     where
-      go : (o : Option ℕ) → (by_room (accepted t l) (λ k. refused 8 k l) o).answer ≡ by_room (accepted t l).answer (refusal 8) o
+      go : (o : Option ℕ) → (by_room (accepted t l) (λ k. refused 8 k l) o).answer ≡ answered (by_room (Ok (accepted t l).answer) (λ k. Err (Short k)) o)
       go none = refl
       go (some k) = refl
 
   -- and what is no refusal is the success
-  pub fit-accepted : (fitted t l).answer.number ≡ 0 → fitted t l ≡ accepted t l
-  unfolding fitted refused
+  pub fit-accepted : IsOk (fits l t.room (accepted t l).answer) → fitted t l ≡ accepted t l
+  unfolding fitted fits
   fit-accepted = go (too_small l t.room (accepted t l).answer)
     where
-      go : (o : Option ℕ) → (by_room (accepted t l) (λ k. refused 8 k l) o).answer.number ≡ 0
+      go : (o : Option ℕ) → IsOk (by_room {A = Result Answer Refusal} (Ok (accepted t l).answer) (λ k. Err (Short k)) o)
           → by_room (accepted t l) (λ k. refused 8 k l) o ≡ accepted t l
       go none e = refl
-      go (some k) e = absurd (omega arith)
+      go (some k) e = absurd (false≢true e)

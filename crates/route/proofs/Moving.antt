@@ -16,7 +16,7 @@ use Rattle.std.specs.Prelude.{Result, Ok, Err}
 use Rattle.token.specs.declared.moved.Transfer.{Transfer}
 use Rattle.token.specs.declared.moved.Reason.{Reason}
 use Rattle.token.specs.declared.moved.Reason.TheVariants.{NotToken, UnsupportedTag, TooFewAccounts, DataTooShort, ZeroKey}
-use Rattle.token.specs.Moved.{transfer_value, reason_of, why_none, source_by}
+use Rattle.token.specs.Moved.{transfer_value, reason_of, source_by}
 use Rattle.token.specs.Reasons.{reason}
 use Rattle.token.specs.Rows.{transfer_row, transfer_bytes}
 use Rattle.token.proofs.Laws.{moved_value}
@@ -37,9 +37,9 @@ rows-le r = go (eqb r 0)
 
 -- no other program gives a transfer
 pub no-transfer : (ks : List ℕ) (x : Instruction) → is_token (program_of ks x) ≡ false → transfer_of ks x ≡ none
-unfolding transfer_of why_none
+unfolding transfer_of
 no-transfer ks x e =
-    sym (moved_value (key_of ks) (program_of ks x) x.accounts x.bytes) ∙ rw (read_none (program_of ks x) (length x.accounts) x.bytes e, e)
+    sym (moved_value (key_of ks) (program_of ks x) x.accounts x.bytes) ∙ rw (read_none (program_of ks x) (length x.accounts) x.bytes e)
 
 -- and that is why
 pub no-token : (ks : List ℕ) (x : Instruction) → is_token (program_of ks x) ≡ false → reason_in ks x ≡ 1

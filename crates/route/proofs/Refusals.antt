@@ -11,13 +11,13 @@ use native.Mathlib.Omega.{arith}
 use lib.Dec.{ltb, eqb}
 use lib.ListN.{length}
 use Rattle.wire.proofs.Below.{and_left, and_right}
-use Rattle.pack.specs.declared.Verdict.{Verdict}
-use Rattle.pack.specs.declared.Verdict.TheVariants.{Good, Mark, Starts, Section, Keys, Balances, Invocations}
+use Rattle.pack.specs.declared.Refusal.TheVariants.{Mark, Starts, Section, Keys, Balances, Invocations}
+use Rattle.std.specs.Prelude.{Ok, Err}
 use Rattle.pack.specs.Sections.{marked, ordered, section_of}
 use Rattle.pack.specs.Items.{keys_fill, rows_fill, outers_whole, groups_whole}
 use Rattle.pack.specs.View.{balances_named, view_of}
 use Rattle.pack.specs.Flatten.{flatten}
-use Rattle.pack.specs.Verdict.{verdict, refusal_number, place_of}
+use Rattle.pack.specs.Verdict.{Verdict, verdict, refusal_number, place_of}
 use Rattle.route.specs.declared.Answer.{Answer}
 use Rattle.route.specs.Widths.{mint_width, invocation_width, transfer_width, leg_width, action_width}
 use Rattle.route.specs.Tables.{Tables}
@@ -85,7 +85,7 @@ module _ (names p : List ℕ) (l : Lent) where
   record Given (v : Verdict) (t : ℕ × ℕ) : Type 0 where
     is : told (judged names p l v).answer ≡ t
 
-  good-given : Given Good (met_else 7 (cond (unfinished (tables_in names p)) (some 0) none) (met_else 8 (crowds l (tables_in names p)) (0, 0)))
+  good-given : Given (Ok tt) (met_else 7 (cond (unfinished (tables_in names p)) (some 0) none) (met_else 8 (crowds l (tables_in names p)) (0, 0)))
   unfolding judged
   good-given = record { is = tables-given (tables_in names p) }
 
@@ -98,7 +98,7 @@ module _ (names p : List ℕ) (l : Lent) where
 
   -- the lowest section that is broken
   sections-given : (a b c d e : Bool) {y : Verdict} {t : ℕ × ℕ} → Given y t
-      → Given (cond a (Section 0) (cond b (Section 1) (cond c (Section 2) (cond d (Section 3) (cond e (Section 4) y)))))
+      → Given (cond a (Err (Section 0)) (cond b (Err (Section 1)) (cond c (Err (Section 2)) (cond d (Err (Section 3)) (cond e (Err (Section 4)) y)))))
       (met_else 4 (cond a (some 0) (cond b (some 1) (cond c (some 2) (cond d (some 3) (cond e (some 4) none))))) t)
   unfolding judged refused
   sections-given true b c d e g = record { is = refl }
@@ -118,12 +118,12 @@ module _ (names p : List ℕ) (l : Lent) where
   unfolding route verdict broken refusal_table first_met
   first-given =
       names-given (eqb (length names) 88)
-      (test-given (not (marked p)) Mark (λ e. omega arith)
-      (test-given (not (ordered p)) Starts (λ e. omega arith)
+      (test-given (not (marked p)) (Err Mark) (λ e. omega arith)
+      (test-given (not (ordered p)) (Err Starts) (λ e. omega arith)
       (sections-given (not (keys_fill (section_of p 0))) (not (rows_fill 36 (section_of p 1))) (not (outers_whole (section_of p 2))) (not (groups_whole (section_of p 3))) (not (rows_fill 32 (section_of p 4)))
-      (test-given (ltb 256 (length (view_of p).keys)) Keys (λ e. omega arith)
-      (test-given (not (balances_named (length (view_of p).keys) (view_of p).balances)) Balances (λ e. omega arith)
-      (test-given (ltb 1024 (length (flatten (view_of p)))) Invocations (λ e. omega arith)
+      (test-given (ltb 256 (length (view_of p).keys)) (Err Keys) (λ e. omega arith)
+      (test-given (not (balances_named (length (view_of p).keys) (view_of p).balances)) (Err Balances) (λ e. omega arith)
+      (test-given (ltb 1024 (length (flatten (view_of p)))) (Err Invocations) (λ e. omega arith)
       good-given))))))
 
   -- a refusal of a list that is met

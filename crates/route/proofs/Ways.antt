@@ -13,9 +13,9 @@ use borrow.Author.Tests.{eqb-true, eqb-false}
 use Rattle.pack.specs.Sections.{section_of}
 use Rattle.pack.specs.View.{view_of}
 use Rattle.pack.specs.Flatten.{flatten}
-use Rattle.pack.specs.Verdict.{verdict, refusal_number, place_of}
-use Rattle.pack.specs.declared.Verdict.{Verdict}
-use Rattle.pack.specs.declared.Verdict.TheVariants.{Good, Mark, Starts, Section, Keys, Balances, Invocations}
+use Rattle.pack.specs.Verdict.{Verdict, verdict, refusal_number, place_of}
+use Rattle.pack.specs.declared.Refusal.TheVariants.{Mark, Starts, Section, Keys, Balances, Invocations}
+use Rattle.std.specs.Prelude.{Ok, Err}
 use Rattle.evidence.specs.MintTable.{MintAnswer}
 use Rattle.mints.proofs.Sorting.{get_or-mem}
 use Rattle.route.specs.Widths.{mint_width}
@@ -52,13 +52,13 @@ of-names = record { listed = get_or-mem refusal_numbers 0 (omega arith); no_seve
 -- and those of a pack follow
 pub of-pack : (v : Verdict) → refusal_number v ≢ 0 → OfInput (refusal_number v)
 unfolding refusal_table
-of-pack Good h = absurd (h refl)
-of-pack Mark h = record { listed = get_or-mem refusal_numbers 1 (omega arith); no_seven = λ e. omega arith; no_eight = λ e. omega arith }
-of-pack Starts h = record { listed = get_or-mem refusal_numbers 2 (omega arith); no_seven = λ e. omega arith; no_eight = λ e. omega arith }
-of-pack (Section k) h = record { listed = get_or-mem refusal_numbers 3 (omega arith); no_seven = λ e. omega arith; no_eight = λ e. omega arith }
-of-pack Keys h = record { listed = get_or-mem refusal_numbers 4 (omega arith); no_seven = λ e. omega arith; no_eight = λ e. omega arith }
-of-pack Balances h = record { listed = get_or-mem refusal_numbers 5 (omega arith); no_seven = λ e. omega arith; no_eight = λ e. omega arith }
-of-pack Invocations h = record { listed = get_or-mem refusal_numbers 6 (omega arith); no_seven = λ e. omega arith; no_eight = λ e. omega arith }
+of-pack (Ok _) h = absurd (h refl)
+of-pack (Err Mark) h = record { listed = get_or-mem refusal_numbers 1 (omega arith); no_seven = λ e. omega arith; no_eight = λ e. omega arith }
+of-pack (Err Starts) h = record { listed = get_or-mem refusal_numbers 2 (omega arith); no_seven = λ e. omega arith; no_eight = λ e. omega arith }
+of-pack (Err (Section k)) h = record { listed = get_or-mem refusal_numbers 3 (omega arith); no_seven = λ e. omega arith; no_eight = λ e. omega arith }
+of-pack (Err Keys) h = record { listed = get_or-mem refusal_numbers 4 (omega arith); no_seven = λ e. omega arith; no_eight = λ e. omega arith }
+of-pack (Err Balances) h = record { listed = get_or-mem refusal_numbers 5 (omega arith); no_seven = λ e. omega arith; no_eight = λ e. omega arith }
+of-pack (Err Invocations) h = record { listed = get_or-mem refusal_numbers 6 (omega arith); no_seven = λ e. omega arith; no_eight = λ e. omega arith }
 
 module _ (names p : List ℕ) (l : Lent) where
   pub tables-by : {x : MintAnswer} → mints_in p ≡ some x → tables_in names p ≡ some (tables_by names p x)

@@ -6,8 +6,6 @@ use Rattle.ids.specs.Keys.{key_of, key_count}
 use Rattle.pack.specs.Invocation.{Instruction}
 use Rattle.natives.specs.Natives.{NativeAction, native_action}
 use Rattle.natives.specs.Rows.{action_row_by}
-use Rattle.natives.specs.declared.Native.{Native}
-use Rattle.natives.specs.declared.Native.TheVariants.{Nothing, Fund, Sync, Close}
 use Rattle.evidence.specs.MintTable.{MintRow, mint_in}
 use Rattle.route.specs.Known.{row_if}
 use Rattle.route.specs.Program.{program_of}
@@ -19,10 +17,3 @@ action_of ks table x = native_action (key_of ks) (key_count ks) (program_of ks x
 -- its row; i is the number of its invocation
 unfoldable pub action_rows : List ℕ → List MintRow → ℕ → Instruction → List (List ℕ)
 action_rows ks table i x = row_if (λ a. action_row_by i a.held a.action) (action_of ks table x)
-
--- how many actions a case is
-abbrev pub action_count : Native → ℕ
-action_count Nothing = 0
-action_count (Fund h s l) = 1
-action_count (Sync h) = 1
-action_count (Close h d a) = 1

@@ -2,7 +2,7 @@
 -- Assumes nothing.
 use Rattle.std.specs.Prelude.{ℕ, ◌+◌, cond, List, ◌≡◌, ltb, eqb, length, get_or}
 use Rattle.ids.specs.declared.Id.{Id}
-use Rattle.ids.specs.declared.Id.TheVariants.{Unresolved}
+use Rattle.ids.specs.declared.Id.TheVariants.{SplToken}
 use Rattle.pack.specs.Invocation.{Instruction, Position, instruction_at}
 use Rattle.wire.specs.Tab.{tab}
 use Rattle.subtrees.specs.Subtrees.{position_in, bits, end_of, insides_of, parent_of, tests_of}
@@ -32,7 +32,7 @@ own_bits reason leg = cond (ltb 0 leg) 16 0 + cond (eqb reason 0) 32 0
 
 -- all its bits
 unfoldable pub bits_at : List Id → List ℕ → List ℕ → List ℕ → ℕ → ℕ
-bits_at programs inside reasons leg i = get_or inside i 0 + program_bits (get_or programs i Unresolved) + own_bits (get_or reasons i 0) (get_or leg i 0)
+bits_at programs inside reasons leg i = get_or inside i 0 + program_bits (get_or programs i SplToken) + own_bits (get_or reasons i 0) (get_or leg i 0)
 
 -- its row, where ps are the positions of the invocations
 unfoldable pub row_at : List Position → List Id → List ℕ → List ℕ → ℕ → List ℕ

@@ -12,7 +12,7 @@ program_of ks x = program_at ks x.program
 
 -- an array holds each program of the first n instructions x
 abbrev pub Programs : List ℕ → (ℕ → Instruction) → ℕ → List Id → Type 0
-Programs ks x n programs = (i : ℕ) → i < n → get_or programs i Unresolved ≡ program_of ks (x i)
+Programs ks x n programs = (i : ℕ) → i < n → get_or programs i SplToken ≡ program_of ks (x i)
 
 -- the Rust's `skip_route`: the token programs, System, Compute Budget, Associated Token and Memo
 abbrev pub skips : Id → Bool

@@ -6,25 +6,12 @@ ghost use Rattle.route.specs.Widths.{action_width};
 ghost use Rattle.route.specs.Arrays.{item_at};
 ghost use Rattle.route.specs.Known.{Puts, Fills};
 ghost use Rattle.route.specs.Program.{program_of, Programs};
-ghost use Rattle.route.specs.Actions.{action_rows, action_count};
+ghost use Rattle.route.specs.Actions.{action_rows};
 
 use crate::candidate::Candidate;
 use crate::transfers::mint;
 use crate::width;
 use ids::Id;
-use natives::Native;
-
-// How many actions there are: one, or none.
-fn count(native: Native) -> usize
-    ensures { result ≡ action_count native }
-{
-    match native {
-        Native::Nothing => 0,
-        Native::Fund(_, _, _) => 1,
-        Native::Sync(_) => 1,
-        Native::Close(_, _, _) => 1,
-    }
-}
 
 // Writes the row of a candidate, if it is an action. Answers how many rows that is.
 fn put_one(keys: &[u8], pack: &[u8], mints: &[u8; 8192], x: Candidate, out: &mut [u8]) -> usize
@@ -45,7 +32,7 @@ fn put_one(keys: &[u8], pack: &[u8], mints: &[u8; 8192], x: Candidate, out: &mut
     let asked = natives::form(id, accounts, data);
     let native = natives::settle(asked, keys, accounts, mint(mints, natives::held(asked)));
     natives::put_row(out, x.row * width::NATIVES, x.number, keys, native);
-    count(native)
+    usize::from(native.is_some())
 }
 
 // The rows of the n invocations. Answers how many there are.

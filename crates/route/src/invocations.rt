@@ -19,7 +19,12 @@ fn program_bits(id: Id) -> u8
     ensures { result ≡ program_bits id }
 {
     match id {
-        Id::SplToken | Id::Token2022 | Id::ComputeBudget | Id::AssociatedToken | Id::Memo | Id::System => 12,
+        Id::SplToken
+        | Id::Token2022
+        | Id::ComputeBudget
+        | Id::AssociatedToken
+        | Id::Memo
+        | Id::System => 12,
         Id::WrappedSol
         | Id::PumpFun
         | Id::LaunchLab
@@ -131,14 +136,7 @@ pub(crate) fn put_rows(
     let mut ends = [0u32; 1024];
     let mut inside = [0u8; 1024];
     let mut parents = [0u32; 1024];
-    let tests = subtrees::subtrees(
-        n,
-        places,
-        &own,
-        &mut ends,
-        &mut inside,
-        &mut parents,
-    );
+    let tests = subtrees::subtrees(n, places, &own, &mut ends, &mut inside, &mut parents);
     for i in 0..n {
         let b = bits(programs, &inside, reasons, leg, i);
         put_row(

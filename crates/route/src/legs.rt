@@ -13,7 +13,6 @@ use crate::candidate::Candidate;
 use crate::transfers::mint;
 use crate::width;
 use ids::Id;
-use swaps::Found;
 
 // Writes the row of a candidate, if it is a leg. Answers how many rows that is.
 fn put_one<'a>(
@@ -35,33 +34,30 @@ fn put_one<'a>(
     if !swaps::trades(id) {
         return 0;
     }
-    let found = swaps::leg(
+    let Some(leg) = swaps::leg(
         names,
         keys,
         id,
         pack::accounts(pack, x.at),
         pack::data(pack, x.at),
+    ) else {
+        return 0;
+    };
+    let spent = mint(mints, leg.input);
+    let bought = mint(mints, leg.output);
+    let program = pack::program(pack, x.at) as usize;
+    swaps::row::put_leg(
+        out,
+        x.row * width::LEGS,
+        x.number,
+        program,
+        keys,
+        leg,
+        spent,
+        bought,
+        pools,
     );
-    match found {
-        Found::Nothing => 0,
-        Found::Leg(leg) => {
-            let spent = mint(mints, leg.input);
-            let bought = mint(mints, leg.output);
-            let program = pack::program(pack, x.at) as usize;
-            swaps::row::put_leg(
-                out,
-                x.row * width::LEGS,
-                x.number,
-                program,
-                keys,
-                leg,
-                spent,
-                bought,
-                pools,
-            );
-            1
-        }
-    }
+    1
 }
 
 // The number of a leg in row k, where there are r of them: 1 plus its row, or 0.

@@ -1,6 +1,6 @@
 // Why a call is refused, in the order of the tests.
 ghost use Rattle.std.specs.Prelude.{◌≡◌, Err};
-ghost use Rattle.route.specs.Fit.{answered};
+ghost use Rattle.route.specs.Fit.{number_of, place_in, answered};
 ghost use Rattle.route.specs.declared.refusal.Refusal.TheVariants.{Pack, Passes};
 
 use crate::Answer;
@@ -21,7 +21,7 @@ pub(crate) enum Refusal {
 impl Refusal {
     // Its number in docs/FORMAT.md.
     fn number(self) -> u32
-        ensures { result ≡ (answered (Err self)).number }
+        ensures { result ≡ number_of self }
     {
         match self {
             Refusal::Names => 1,
@@ -33,7 +33,7 @@ impl Refusal {
 
     // Its place there.
     fn place(self) -> u32
-        ensures { result ≡ (answered (Err self)).place }
+        ensures { result ≡ place_in self }
     {
         match self {
             Refusal::Names => 0,
@@ -44,6 +44,7 @@ impl Refusal {
     }
 
     // The answer of a call that is refused so: no counts.
+    #[tactic(auto, unfolding(crate::specs::Route::refused))]
     pub(crate) fn answer(self) -> Answer
         ensures { result ≡ answered (Err self) }
     {

@@ -5,6 +5,8 @@ use Rattle.route.specs.Widths.{action_width}
 use Rattle.route.specs.Actions.{action_rows}
 use Rattle.pack.specs.Sections.{section_of}
 use mathlib.Core.Path.{◌≡◌, refl, ◌∙◌}
+use lib.ListN.{get_or}
+use Rattle.ids.specs.declared.Id.TheVariants.{SplToken}
 use native.Mathlib.Omega.{arith}
 use Rattle.route.proofs.actions.put_rows.Goals as goal
 
@@ -16,20 +18,20 @@ loop-i-init c =
       fills-none a.mints.now a.pack.now a.at.now (action_rows (section_of a.pack.now 0)) action_width a.out.now,
     )
 
-pub put_one-requires : goal.put_one-requires
-put_one-requires c =
+pub put_one-k-requires : goal.put_one-k-requires
+put_one-k-requires c =
     (omega arith, rw c.section-keys.ensures (c.requires.1 c.loop-i.i (omega arith)))
 
 pub overflow_add-k : goal.overflow_add-k
-overflow_add-k c = omega (arith, c.put_one.ensures.few)
+overflow_add-k c = omega (arith, c.put_one-k.ensures.few)
 
 pub loop-i-preserved : goal.loop-i-preserved
 loop-i-preserved c =
     let l = c.loop-i in
     let a = c.args in
     let f = action_rows (section_of a.pack.now 0) in
-    let put = c.put_one in
-    let id = get_or a.programs.now l.i Unresolved in
+    let put = c.put_one-k in
+    let id = get_or a.programs.now l.i SplToken in
     let one : Puts a.mints.now (section_of a.pack.now 0) a.pack.now f action_width (candidate a.at.now id l.i l.k) put.result l.out put.new.out =
     rw c.section-keys.ensures at put.ensures in (
       omega (arith, one.few),

@@ -4,7 +4,7 @@ use Rattle.route.specs.Widths.{action_width}
 use Rattle.route.specs.Actions.{action_rows}
 use Rattle.pack.specs.Sections.{section_of}
 use lib.ListN.{length}
-use Prim.Native.Nat.{◌-◌, ◌≤◌}
+use Prim.Native.Nat.{◌≤◌}
 use mathlib.Core.Path.{◌≡◌}
 use Rattle.route.proofs.actions.put_rows.Given as goal
 

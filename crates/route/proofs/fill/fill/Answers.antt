@@ -1,112 +1,65 @@
 -- `flatten` and `infer` leave the arrays that the tables of the definition are made of, and the function of each table puts its rows from them.
-use Rattle.pack.specs.Verdict.{verdict, refusal_number}
+use Rattle.pack.specs.Verdict.{refusal_number}
 use Rattle.route.proofs.Filling.{few, at_length, Begun, begun}
 use Rattle.route.proofs.Finishing.{finished}
-use Rattle.route.proofs.Success.{numbers, never, recast, filled, refused-names, refused-pack}
-use Prim.Native.Nat.{ℕ}
+use Rattle.route.proofs.Success.{numbers, never, recast, filled, handed-on, refused-names, refused-pack}
 use native.Mathlib.Omega.{arith}
-use mathlib.Core.List.{List}
-use mathlib.Core.Path.{◌≡◌, sym, ap, ◌∙◌}
+use mathlib.Core.Path.{sym, ap, ◌∙◌}
 use Rattle.route.proofs.fill.fill.Goals as goal
-use Rattle.route.proofs.fill.fill.Goals.{After-infer-inferred}
+use Rattle.route.proofs.fill.fill.Goals.{After-infer}
 
 pub returns-then-names-ne88 : goal.returns-then-names-ne88
-returns-then-names-ne88 c = refused-names c.if-names-ne88.true c.refusal.ensures
+returns-then-names-ne88 c = refused-names c.if-names-ne88.true
 
-pub returns-then-number-ne0 : goal.returns-then-number-ne0
-returns-then-number-ne0 c =
-    let v = c.flatten-flat.ensures.0 in
-    refused-pack c.if-names-ne88.false (λ e. c.if-number-ne0.true (c.number.ensures ∙ ap refusal_number v ∙ e)) (c.refusal-then-number-ne0.ensures ∙ rw (c.number-then-number-ne0.ensures, c.place.ensures, v))
+pub returns-in_err-n : goal.returns-in_err-n
+returns-in_err-n c = rw (handed-on c.from_residual.ensures.1) (refused-pack c.if-names-ne88.false (sym c.in_err-n.ensures.verdict))
 
 pub slice_bounds-infer-end : goal.slice_bounds-infer-end
 slice_bounds-infer-end c =
     let p = c.args.pack.now in
-    let f = c.flatten-flat in
-    let e : refusal_number (verdict p) ≡ 0 = sym (c.number.ensures ∙ ap refusal_number f.ensures.0) ∙ c.if-number-ne0.false in
-    omega (arith, few p f.result.count f.new.at f.new.places e f.ensures.1, at_length p f.result.count f.new.at f.new.places e f.ensures.1)
+    let f = c.flatten.new in
+    let e = sym (ap refusal_number c.in_ok-n.ensures.verdict) in
+    let w = c.in_ok-n.ensures.arrays in
+    omega (arith, few p c.in_ok-n.n f.at f.places e w, at_length p c.in_ok-n.n f.at f.places e w)
 
--- once the mints are inferred: the call's pack, and that it is not refused
-abbrev pack : After-infer-inferred → List ℕ
-pack m = m.args.pack.now
-
-good : (m : After-infer-inferred) → refusal_number (verdict (pack m)) ≡ 0
-good m = sym (m.number.ensures ∙ ap refusal_number m.flatten-flat.ensures.0) ∙ m.if-number-ne0.false
-
--- what is known then
-began : (m : After-infer-inferred) → Begun (pack m) m.flatten-flat.result.count m.flatten-flat.new.at m.flatten-flat.new.outer m.flatten-flat.new.inner m.flatten-flat.new.height m.args.t0.now m.infer-inferred.new.rows m.infer-inferred.new.known m.infer-inferred.new.programs m.infer-inferred.result
+-- what is known once the mints are inferred
+began : (m : After-infer) → Begun m.args.pack.now m.in_ok-n.n m.flatten.new.at m.flatten.new.places m.args.t0.now m.infer.new.rows m.infer.new.known m.infer.new.programs m.infer.result
 began m =
-    let f = m.flatten-flat in
-    let k0 = m.section in
-    let k1 = m.section-2 in
-    let i = m.infer-inferred.ensures in
-    begun (pack m) f.result.count f.new.at f.new.places (good m) f.ensures.1 k0.result.now k1.result.now k0.ensures k1.ensures m.args.t0.now i.value i.rows_after i.known_after i.programs_after
+    let f = m.flatten.new in
+    let i = m.infer.ensures in
+    begun m.args.pack.now m.in_ok-n.n f.at f.places (sym (ap refusal_number m.in_ok-n.ensures.verdict)) m.in_ok-n.ensures.arrays m.section.result.now m.section-2.result.now m.section.ensures m.section-2.ensures
+    m.args.t0.now i.value i.rows_after i.known_after i.programs_after
 
-pub returns-in_default : goal.returns-in_default
-returns-in_default c =
-    let b = began (goal.at.returns-in_default c).After-infer-inferred in
-    absurd (never b.table b.few_passes (sym c.in_default.is ∙ b.answer))
-
-pub slice_bounds-put_rows-end : goal.slice_bounds-put_rows-end
-slice_bounds-put_rows-end c = sym (began (goal.at.slice_bounds-put_rows-end c).After-infer-inferred).long
+pub returns-in_err-made : goal.returns-in_err-made
+returns-in_err-made c =
+    let b = began (goal.at.returns-in_err-made c).After-infer in
+    absurd (never b.table (sym c.in_err-made.was ∙ b.answer))
 
 pub put_rows-transfers-requires : goal.put_rows-transfers-requires
-put_rows-transfers-requires c = let b = began (goal.at.put_rows-transfers-requires c).After-infer-inferred in (b.few, b.long, b.kept)
-
-pub slice_bounds-put_rows-end-2 : goal.slice_bounds-put_rows-end-2
-slice_bounds-put_rows-end-2 c = sym (began (goal.at.slice_bounds-put_rows-end-2 c).After-infer-inferred).long
+put_rows-transfers-requires c = let b = began (goal.at.put_rows-transfers-requires c).After-infer in (b.few, b.kept)
 
 pub put_rows-legs-requires : goal.put_rows-legs-requires
-put_rows-legs-requires c = let b = began (goal.at.put_rows-legs-requires c).After-infer-inferred in (b.few, b.long, b.kept)
-
-pub slice_bounds-put_rows-end-3 : goal.slice_bounds-put_rows-end-3
-slice_bounds-put_rows-end-3 c = sym (began (goal.at.slice_bounds-put_rows-end-3 c).After-infer-inferred).long
+put_rows-legs-requires c = let b = began (goal.at.put_rows-legs-requires c).After-infer in (b.few, b.kept)
 
 pub put_rows-natives-requires : goal.put_rows-natives-requires
-put_rows-natives-requires c = let b = began (goal.at.put_rows-natives-requires c).After-infer-inferred in (b.few, b.long, b.kept)
+put_rows-natives-requires c = let b = began (goal.at.put_rows-natives-requires c).After-infer in (b.few, b.kept)
 
-pub put_rows-tests-requires : goal.put_rows-tests-requires
-put_rows-tests-requires c = (began (goal.at.put_rows-tests-requires c).After-infer-inferred).few
+pub overflow_cast-answer : goal.overflow_cast-answer
+overflow_cast-answer c =
+    let b = began (goal.at.overflow_cast-answer c).After-infer in
+    let k = numbers b.table (sym c.in_ok-made.was ∙ b.answer) in
+    omega (arith, k.1, b.few_rows)
 
-pub overflow_cast-rows : goal.overflow_cast-rows
-overflow_cast-rows c =
-    let b = began (goal.at.overflow_cast-rows c).After-infer-inferred in
-    let k = numbers b.table (sym c.in-Made.is ∙ b.answer) in
-    omega (arith, b.few, k.1, k.2, b.few_rows, b.few_passes)
-
-pub overflow_cast-n : goal.overflow_cast-n
-overflow_cast-n c =
-    let b = began (goal.at.overflow_cast-n c).After-infer-inferred in
-    let k = numbers b.table (sym c.in-Made.is ∙ b.answer) in
-    omega (arith, b.few, k.1, k.2, b.few_rows, b.few_passes)
-
-pub overflow_cast-transfers : goal.overflow_cast-transfers
-overflow_cast-transfers c = omega (arith, (began (goal.at.overflow_cast-transfers c).After-infer-inferred).few, c.put_rows-transfers.ensures.fills.few)
-
-pub overflow_cast-legs : goal.overflow_cast-legs
-overflow_cast-legs c = omega (arith, (began (goal.at.overflow_cast-legs c).After-infer-inferred).few, c.put_rows-legs.ensures.fills.few)
-
-pub overflow_cast-natives : goal.overflow_cast-natives
-overflow_cast-natives c = omega (arith, (began (goal.at.overflow_cast-natives c).After-infer-inferred).few, c.put_rows-natives.ensures.few)
-
-pub overflow_cast-passes : goal.overflow_cast-passes
-overflow_cast-passes c =
-    let b = began (goal.at.overflow_cast-passes c).After-infer-inferred in
-    let k = numbers b.table (sym c.in-Made.is ∙ b.answer) in
-    omega (arith, b.few, k.1, k.2, b.few_rows, b.few_passes)
-
-pub shape_of-t0 : goal.shape_of-t0
-shape_of-t0 c = c.infer-inferred.auto.rows
-
-pub shape_of-t2 : goal.shape_of-t2
-shape_of-t2 c = c.put_rows-transfers.auto.out
-
-pub shape_of-t3 : goal.shape_of-t3
-shape_of-t3 c = c.put_rows-legs.auto.out
+pub overflow_cast-answer-6 : goal.overflow_cast-answer-6
+overflow_cast-answer-6 c =
+    let b = began (goal.at.overflow_cast-answer-6 c).After-infer in
+    let k = numbers b.table (sym c.in_ok-made.was ∙ b.answer) in
+    omega (arith, k.2, b.few_passes)
 
 pub returns : goal.returns
 returns c =
-    let b = began (goal.at.returns c).After-infer-inferred in
-    let k = numbers b.table (sym c.in-Made.is ∙ b.answer) in
+    let b = began (goal.at.returns c).After-infer in
+    let k = numbers b.table (sym c.in_ok-made.was ∙ b.answer) in
     let second = c.put_rows-transfers in
     let third = c.put_rows-legs in
     let fourth = c.put_rows-natives in
@@ -117,7 +70,7 @@ returns c =
       rows = b.rows;
       finished =
           recast k.0 k.1 k.2
-          (finished {t0 = c.args.t0.now} {o0 = c.infer-inferred.new.rows} (record {
+          (finished {t0 = c.args.t0.now} {o0 = c.infer.new.rows} (record {
             few = b.few;
             known = b.kept;
             transfers = second.ensures.fills;
@@ -129,7 +82,7 @@ returns c =
             answer = c.fit.ensures;
             kept =
                 record {
-                  mints = c.infer-inferred.auto.rows;
+                  mints = c.infer.auto.rows;
                   invocations = first.auto.out;
                   transfers = second.auto.out;
                   legs = third.auto.out;
@@ -137,4 +90,4 @@ returns c =
                 };
           }) b.table.rows b.holds);
       cleared = c.requires;
-    }) c.if-names-ne88.false (good (goal.at.returns c).After-infer-inferred)
+    }) c.if-names-ne88.false (sym (ap refusal_number c.in_ok-n.ensures.verdict))

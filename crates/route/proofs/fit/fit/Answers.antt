@@ -1,29 +1,28 @@
 -- The tables are tried in the order in which the definition tries them.
 use Rattle.route.specs.Fit.{fits}
 use borrow.Author.Tests.{lt-ltb, le-ltb}
-use mathlib.Core.Path.{◌∙◌}
 use Rattle.route.proofs.fit.fit.Goals as goal
 
-pub returns-then-mints-room : goal.returns-then-mints-room
+pub returns-then-lent-room : goal.returns-then-lent-room
 unfolding fits
-returns-then-mints-room c = c.refusal.ensures ∙ simp (lt-ltb _ _ c.if-mints-room.true)
+returns-then-lent-room c = simp (lt-ltb _ _ c.if-lent-room.true)
 
-pub returns-then-invocations-a : goal.returns-then-invocations-a
+pub returns-then-lent-a : goal.returns-then-lent-a
 unfolding fits
-returns-then-invocations-a c = c.refusal-then-invocations-a.ensures ∙ simp (le-ltb _ _ c.if-mints-room.false, lt-ltb _ _ c.if-invocations-a.true)
+returns-then-lent-a c = simp (le-ltb _ _ c.if-lent-room.false, lt-ltb _ _ c.if-lent-a.true)
 
-pub returns-then-transfers-a : goal.returns-then-transfers-a
+pub returns-then-lent-a-2 : goal.returns-then-lent-a-2
 unfolding fits
-returns-then-transfers-a c = c.refusal-then-transfers-a.ensures ∙ simp (le-ltb _ _ c.if-mints-room.false, le-ltb _ _ c.if-invocations-a.false, lt-ltb _ _ c.if-transfers-a.true)
+returns-then-lent-a-2 c = simp (le-ltb _ _ c.if-lent-room.false, le-ltb _ _ c.if-lent-a.false, lt-ltb _ _ c.if-lent-a-2.true)
 
-pub returns-then-legs-a : goal.returns-then-legs-a
+pub returns-then-lent-a-3 : goal.returns-then-lent-a-3
 unfolding fits
-returns-then-legs-a c = c.refusal-then-legs-a.ensures ∙ simp (le-ltb _ _ c.if-mints-room.false, le-ltb _ _ c.if-invocations-a.false, le-ltb _ _ c.if-transfers-a.false, lt-ltb _ _ c.if-legs-a.true)
+returns-then-lent-a-3 c = simp (le-ltb _ _ c.if-lent-room.false, le-ltb _ _ c.if-lent-a.false, le-ltb _ _ c.if-lent-a-2.false, lt-ltb _ _ c.if-lent-a-3.true)
 
-pub returns-then-natives-a : goal.returns-then-natives-a
+pub returns-then-lent-a-4 : goal.returns-then-lent-a-4
 unfolding fits
-returns-then-natives-a c = c.refusal-then-natives-a.ensures ∙ simp (le-ltb _ _ c.if-mints-room.false, le-ltb _ _ c.if-invocations-a.false, le-ltb _ _ c.if-transfers-a.false, le-ltb _ _ c.if-legs-a.false, lt-ltb _ _ c.if-natives-a.true)
+returns-then-lent-a-4 c = simp (le-ltb _ _ c.if-lent-room.false, le-ltb _ _ c.if-lent-a.false, le-ltb _ _ c.if-lent-a-2.false, le-ltb _ _ c.if-lent-a-3.false, lt-ltb _ _ c.if-lent-a-4.true)
 
 pub returns : goal.returns
 unfolding fits
-returns c = simp (le-ltb _ _ c.if-mints-room.false, le-ltb _ _ c.if-invocations-a.false, le-ltb _ _ c.if-transfers-a.false, le-ltb _ _ c.if-legs-a.false, le-ltb _ _ c.if-natives-a.false)
+returns c = simp (le-ltb _ _ c.if-lent-room.false, le-ltb _ _ c.if-lent-a.false, le-ltb _ _ c.if-lent-a-2.false, le-ltb _ _ c.if-lent-a-3.false, le-ltb _ _ c.if-lent-a-4.false)

@@ -2,7 +2,6 @@
 use Rattle.route.specs.Arrays.{own_at}
 use Rattle.wire.specs.Tab.{tab}
 use lib.Seq.{sets}
-use Prim.Native.Nat.{◌-◌, ◌≤◌}
 use mathlib.Core.Path.{◌≡◌}
 use Rattle.route.proofs.invocations.put_own.Given as goal
 

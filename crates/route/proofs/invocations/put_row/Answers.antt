@@ -1,6 +1,6 @@
 -- The eight fields are stored one behind the other, and fill the row.
 use Rattle.route.proofs.Row.{fields}
-use Rattle.pack.specs.Invocation.{lowered}
+use Rattle.pack.specs.Invocation.{position_of}
 use Rattle.wire.specs.Zeros.{zeros}
 use lib.Seq.{sets}
 use mathlib.Core.Path.{refl, ap}
@@ -8,6 +8,7 @@ use Rattle.route.specs.Widths.{invocation_width}
 use Rattle.route.proofs.invocations.put_row.Goals as goal
 
 pub returns : goal.returns
+unfolding position_of
 returns c =
     let a = c.args in
     rw (
@@ -20,5 +21,6 @@ returns c =
       c.put_flagged-2.ensures,
       c.put_flagged.ensures,
       c.put_u32.ensures,
+      c.from.ensures,
     )
-    (ap (sets a.out.now a.at) (fields (zeros invocation_width) (record { outer = a.outer; inner = lowered a.inner; height = lowered a.height }) a.end a.bits a.leg a.parent a.reason refl))
+    (ap (sets a.out.now a.at) (fields (zeros invocation_width) (position_of a.place) a.end a.bits a.leg a.parent a.reason refl))

@@ -8,7 +8,7 @@ use Rattle.route.proofs.Finishing.{inside-le}
 use Rattle.wire.specs.Tab.{tab}
 use Rattle.subtrees.specs.Subtrees.{taken, positions, Subtrees}
 use Rattle.subtrees.proofs.Arrays.{taken-all, positions-length}
-use Rattle.pack.specs.Invocation.{position_in_places}
+use Rattle.pack.specs.Invocation.{position_in_places, blank_place}
 use Rattle.pack.specs.declared.position.Place.{Place}
 use lib.ListN.{length}
 use Prim.Native.Nat.{ℕ, ◌≤◌}
@@ -32,7 +32,7 @@ blocked : {own ends inside parents : List ℕ} {tests : ℕ} (places : List Plac
 blocked places n few s = rw (taken-all n few) at s
 
 pub loop-i-preserved : goal.loop-i-preserved
-unfolding position_in_places
+unfolding position_in_places blank_place
 loop-i-preserved c =
     let l = c.loop-i in
     let a = c.args in

@@ -5,7 +5,6 @@ use Rattle.route.specs.Widths.{invocation_width}
 use Rattle.wire.specs.Tab.{tab}
 use Rattle.subtrees.specs.Subtrees.{positions}
 use lib.ListN.{length}
-use Prim.Native.Nat.{◌-◌, ◌≤◌}
 use mathlib.Core.Path.{◌≡◌}
 use Rattle.route.proofs.invocations.put_rows.Given as goal
 

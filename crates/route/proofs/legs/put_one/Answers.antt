@@ -5,7 +5,7 @@ use Rattle.route.specs.Lay.{placed}
 use Rattle.route.specs.Legs.{leg_rows}
 use Rattle.route.specs.Program.{program_of}
 use Rattle.swaps.proofs.View.{no_leg, a-leg}
-use Rattle.swaps.specs.declared.Found.TheVariants.{Nothing, Leg}
+use Rattle.std.specs.Prelude.{Some, None}
 use Rattle.pack.specs.View.{pools_in}
 use Rattle.swaps.specs.Swap.{trades, swap, leg_in_numbers}
 use Rattle.swaps.specs.Leg.{leg_with}
@@ -36,15 +36,15 @@ returns-then-not-trades c =
 pub overflow_mul-x : goal.overflow_mul-x
 overflow_mul-x c = omega (arith, c.requires.0)
 
-pub returns-in-Nothing : goal.returns-in-Nothing
+pub returns-in_default : goal.returns-in_default
 unfolding leg_rows placed
-returns-in-Nothing c =
+returns-in_default c =
     let a = c.args in
     let v = instruction_at a.pack.now a.x.at in
     let ks = a.keys.now in
     let pools = pools_in a.pools.now in
-    let e : leg_in_numbers a.names.now (key_of ks) (program_of ks v) v.accounts v.bytes ≡ Nothing =
-    sym (c.leg-found.ensures ∙ rw (c.accounts.ensures, c.«data».ensures, c.requires.1)) ∙ c.in-Nothing.is in
+    let e : leg_in_numbers a.names.now (key_of ks) (program_of ks v) v.accounts v.bytes ≡ None =
+    sym (c.leg.ensures ∙ rw (c.accounts.ensures, c.«data».ensures, c.requires.1)) ∙ c.in_default.is in
     record {
       few = omega arith;
       counted = λ table h. rw (leg-swap a.names.now ks pools table v, no_leg a.names.now (key_of ks) (program_of ks v) v.accounts v.bytes (mint_in table) pools e);
@@ -53,7 +53,7 @@ returns-in-Nothing c =
 
 -- the leg that is found, with the mints that are handed on, is the instruction's swap
 is-leg : (ms names ks : List ℕ) (pools : List Key) (v : Instruction) (s : Swap)
-    → leg_in_numbers names (key_of ks) (program_of ks v) v.accounts v.bytes ≡ Leg s
+    → leg_in_numbers names (key_of ks) (program_of ks v) v.accounts v.bytes ≡ Some s
     → (table : List MintRow) → Holds ms ks table → s.input < 256 → s.output < 256
     → swap names (key_of ks) (program_of ks v) v.accounts v.bytes (mint_in table) pools ≡ some (leg_with (key_of ks) (mint_of (known_mint ms s.input)) (mint_of (known_mint ms s.output)) pools s)
 is-leg ms names ks pools v s e table h p q =
@@ -61,24 +61,23 @@ is-leg ms names ks pools v s e table h p q =
     (h s.input p)
     (h s.output q)
 
-pub returns-in-Leg : goal.returns-in-Leg
+pub returns : goal.returns
 unfolding leg_rows placed
-returns-in-Leg c =
+returns c =
     let a = c.args in
     let v = instruction_at a.pack.now a.x.at in
     let ks = a.keys.now in
     let pools = pools_in a.pools.now in
-    let s = c.in-Leg.leg in
-    let known = c.in-Leg.known_told-1-own.given in
-    let e : leg_in_numbers a.names.now (key_of ks) (program_of ks v) v.accounts v.bytes ≡ Leg s =
-    sym (c.leg-found.ensures ∙ rw (c.accounts.ensures, c.«data».ensures, c.requires.1)) ∙ c.in-Leg.is in
-    let small : s.input < 256 = omega (arith, known) in
-    let small2 : s.output < 256 = omega (arith, known) in
+    let s = c.in-Some.leg in
+    let e : leg_in_numbers a.names.now (key_of ks) (program_of ks v) v.accounts v.bytes ≡ Some s =
+    sym (c.leg.ensures ∙ rw (c.accounts.ensures, c.«data».ensures, c.requires.1)) ∙ c.in-Some.is in
+    let small : s.input < 256 = omega arith in
+    let small2 : s.output < 256 = omega arith in
     record {
       few = omega arith;
       counted = λ table h. rw (leg-swap a.names.now ks pools table v, is-leg a.mints.now a.names.now ks pools v s e table h small small2);
       rows =
           λ table h.
           rw
-          (leg-swap a.names.now ks pools table v, is-leg a.mints.now a.names.now ks pools v s e table h small small2, c.put_leg.ensures, c.mint-spent.ensures, c.mint-bought.ensures, c.program.ensures);
+          (leg-swap a.names.now ks pools table v, is-leg a.mints.now a.names.now ks pools v s e table h small small2, c.put_leg.ensures, c.mint-spent.ensures, c.mint-bought.ensures, c.program-program.ensures);
     }

@@ -5,6 +5,8 @@ use Rattle.route.specs.Widths.{leg_width}
 use Rattle.route.specs.Legs.{leg_rows_in}
 use Rattle.pack.specs.Sections.{section_of}
 use mathlib.Core.Path.{◌≡◌, refl, ◌∙◌}
+use lib.ListN.{get_or}
+use Rattle.ids.specs.declared.Id.TheVariants.{SplToken}
 use native.Mathlib.Omega.{arith}
 use Rattle.route.proofs.legs.put_rows.Goals as goal
 
@@ -33,7 +35,7 @@ loop-i-preserved c =
     let a = c.args in
     let f = leg_rows_in a.names.now a.pack.now in
     let put = c.put_one-r in
-    let id = get_or a.programs.now l.i Unresolved in
+    let id = get_or a.programs.now l.i SplToken in
     let one : Puts a.mints.now (section_of a.pack.now 0) a.pack.now f leg_width (candidate a.at.now id l.i l.k) put.result l.out put.new.out =
     rw (c.section-keys.ensures, c.section-pools.ensures) at put.ensures in (
       omega (arith, one.few),

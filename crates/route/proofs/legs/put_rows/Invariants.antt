@@ -3,7 +3,7 @@ use Rattle.route.specs.Known.{Fills, Numbers}
 use Rattle.route.specs.Widths.{leg_width}
 use Rattle.route.specs.Legs.{leg_rows_in}
 use lib.ListN.{length}
-use Prim.Native.Nat.{◌-◌, ◌≤◌}
+use Prim.Native.Nat.{◌≤◌}
 use mathlib.Core.Path.{◌≡◌}
 use Rattle.route.proofs.legs.put_rows.Given as goal
 

@@ -8,6 +8,8 @@ use Rattle.route.specs.Transfers.{transfer_rows, reason_in, transfer_count}
 use Rattle.pack.specs.Sections.{section_of}
 use Rattle.wire.specs.Tab.{tab}
 use mathlib.Core.Path.{◌≡◌, refl, ◌∙◌}
+use lib.ListN.{get_or}
+use Rattle.ids.specs.declared.Id.TheVariants.{SplToken}
 use native.Mathlib.Omega.{arith}
 use Rattle.route.proofs.transfers.put_rows.Goals as goal
 
@@ -34,7 +36,7 @@ loop-i-preserved c =
     let a = c.args in
     let f = transfer_rows (section_of a.pack.now 0) in
     let put = c.put_one-r in
-    let id = get_or a.programs.now l.i Unresolved in
+    let id = get_or a.programs.now l.i SplToken in
     let keys = c.section-keys.ensures in
     let one : Puts a.mints.now (section_of a.pack.now 0) a.pack.now f transfer_width (candidate a.at.now id l.i l.k) (transfer_count put.result) l.out put.new.out =
     rw keys at put.ensures.puts in

@@ -5,7 +5,7 @@ use Rattle.route.specs.Transfers.{transfer_rows, reasons_of}
 use Rattle.pack.specs.Sections.{section_of}
 use lib.ListN.{length}
 use lib.Seq.{sets}
-use Prim.Native.Nat.{◌-◌, ◌≤◌}
+use Prim.Native.Nat.{◌≤◌}
 use mathlib.Core.Path.{◌≡◌}
 use Rattle.route.proofs.transfers.put_rows.Given as goal
 
