@@ -14,6 +14,10 @@ use lib.Dec.{eqb, ltb}
 use lib.ListN.{length, get_or, take, drop, drop_of_length-le, take-append-drop}
 use lib.Seq.{drop-cons, drop-drop}
 use borrow.Author.Tests.{eq-eqb, ne_eqb, lt-ltb, le-ltb, ltb-true, ltb-false}
+use Rattle.std.specs.Ordering.{is_lt, nat_cmp}
+use Rattle.std.specs.Cmp.Lexicographic.{slice_cmp}
+use Rattle.std.proofs.lemmas.Cmp.{same_from_slice_cmp}
+use Rattle.std.proofs.lemmas.Bool.Decides.{nat_tests}
 use Rattle.wire.specs.Order.{Below, here, lt_key, next, shorter}
 
 -- the decision that proofs go by cases on
@@ -133,3 +137,8 @@ less-pass n a b i e =
     let p : drop i a ≡ take n (drop i b) ++ drop (i + n) a = rw (← e, ← drop-drop n i a) (sym (take-append-drop n (drop i a))) in
     let q : drop i b ≡ take n (drop i b) ++ drop (i + n) b = rw (← drop-drop n i b) (sym (take-append-drop n (drop i b))) in
     sym (ap₂ lt_key p q ∙ less-prefix (take n (drop i b)) (drop (i + n) a) (drop (i + n) b))
+
+-- the slices' own order is the same
+pub less-cmp : (a b : List ℕ) → is_lt (slice_cmp nat_cmp a b) ≡ lt_key a b
+unfolding lt_key
+less-cmp a b = same_from_slice_cmp nat_cmp is_lt lt_key refl (λ y ys. refl) (λ x xs. refl) (λ x y xs ys o e. grind (arith, nat_tests)) a b _ refl
