@@ -39,8 +39,3 @@ pub nonzero : (k : ℕ) → k < 14 → id_at k ≡ zero_key → ⊥
 nonzero k h e =
     let z : k ≡ 14 = sym (led k h) ∙ (ap candidate_of e ∙ zero-led) in
     omega arith
-
--- every row is whole
-pub ids-length : length ids ≡ 448
-unfolding ids
-ids-length = refl

@@ -2,15 +2,12 @@
 -- was written is read back.
 -- Assumes nothing.
 use mathlib.Core.Path.{◌≡◌, refl, sym, ap, subst, ◌∙◌}
-use mathlib.Core.Bool.{Bool, true, false}
 use mathlib.Core.List.{List, [], ◌∷◌, ◌++◌}
-use Prim.Native.Nat.{ℕ, zero, suc, ◌+◌, ◌*◌, ◌/◌, ◌%◌, ◌^◌, ◌-◌, ◌≤◌, ◌<◌}
+use Prim.Native.Nat.{ℕ, zero, suc, ◌+◌, ◌*◌, ◌/◌, ◌%◌, ◌^◌, ◌≤◌, ◌<◌}
 use native.Mathlib.Nat.{add-zero, add-suc, add_assoc, zero-mul, add-mul, mul_assoc, mul_comm, pow-suc, pow-succ', zero-add, suc-add, div-one, div-div-eq-div-mul, mod-eq_of_lt, one-le-pow}
 use native.Mathlib.Omega.{arith}
 use lib.ListN.{length, get_or, take, drop, get_or-eq_default}
 use lib.Seq.{drop-cons, get_or-append-add}
-use lib.Dec.{ltb}
-use borrow.Author.Tests.{ltb-true, ltb-false}
 use lib.Pow.{pow-add}
 use lib.Arith.{digits_div, digits_mod, mod-mul}
 use Rattle.wire.specs.Le.{le, le_bytes, Bytes}
@@ -47,23 +44,6 @@ le_bytes-low zero x = refl
 le_bytes-low (suc n) x =
     let low : x % 256 < 256 = omega arith in
     rw (pow-suc, mod-mul x {m = 256 ^ n} {c = 256} (one-le-pow n 256 (omega arith)) (omega arith), digits_div (x / 256 % 256 ^ n) low, digits_mod (x / 256 % 256 ^ n) low, le_bytes-low n (x / 256))
-
--- bytes, and bytes after them
-pub bytes-join : (n m : ℕ) (s : List ℕ) (at : ℕ) → Bytes s at n → Bytes s (at + n) m → Bytes s at (n + m)
-bytes-join n m s at h g k l = go (ltb k n) refl
-  where
-    far : n ≤ k → at + n + (k - n) ≡ at + k
-    far b = omega arith
-
-    go : (t : Bool) → ltb k n ≡ t → get_or s (at + k) 0 < 256
-    go true e = h k (ltb-true k n e)
-    go false e = let b = ltb-false k n e in subst (λ (z : ℕ). get_or s z 0 < 256) (far b) (g (k - n) (omega arith))
-
--- two bytes
-pub bytes-two : (s : List ℕ) (at : ℕ) → get_or s at 0 < 256 → get_or s (at + 1) 0 < 256 → Bytes s at 2
-bytes-two s at h g zero l = rw (add-zero at) h
-bytes-two s at h g (suc zero) l = g
-bytes-two s at h g (suc (suc k)) l = absurd (omega arith)
 
 -- n + 1 bytes: the first, and the n after it
 le-first : (n : ℕ) (s : List ℕ) (at : ℕ) → le (suc n) s at ≡ get_or s at 0 + le n s (suc at) * 256

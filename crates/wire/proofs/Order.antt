@@ -3,17 +3,21 @@
 -- Assumes nothing.
 use mathlib.Core.Path.{◌≡◌, refl, sym, ◌∙◌, ap₂, subst}
 use mathlib.Core.Logic.{◌≢◌}
-use mathlib.Core.Bool.{Bool, true, false, ◌&&◌, ◌||◌, false≢true, or-true, and-false}
+use mathlib.Core.Bool.{true, false, ◌&&◌, ◌||◌, false≢true, or-true, and-false}
 use mathlib.Core.List.{List, [], ◌∷◌, ◌++◌, List-discrete}
-use Prim.Native.Nat.{ℕ, ◌+◌, ◌≤◌, ◌<◌}
+use Prim.Native.Nat.{ℕ, ◌+◌, ◌<◌}
 use native.Mathlib.Nat.{lt_irrefl, lt_trans}
 use native.Mathlib.Numerals.{add-one}
 use native.Mathlib.Decide.{ℕ_discrete, dec_lt}
 use native.Mathlib.Omega.{arith}
 use lib.Dec.{eqb, ltb}
-use lib.ListN.{length, get_or, take, drop, drop_of_length-le, take-append-drop}
+use lib.ListN.{length, get_or, take, drop, take-append-drop}
 use lib.Seq.{drop-cons, drop-drop}
-use borrow.Author.Tests.{eq-eqb, ne_eqb, lt-ltb, le-ltb, ltb-true, ltb-false}
+use borrow.Author.Tests.{eq-eqb, ne_eqb, lt-ltb, le-ltb}
+use Rattle.std.specs.Ordering.{is_lt, nat_cmp}
+use Rattle.std.specs.Cmp.Lexicographic.{slice_cmp}
+use Rattle.std.proofs.lemmas.Cmp.{same_from_slice_cmp}
+use Rattle.std.proofs.lemmas.Bool.Decides.{nat_tests}
 use Rattle.wire.specs.Order.{Below, here, lt_key, next, shorter}
 
 -- the decision that proofs go by cases on
@@ -99,27 +103,11 @@ lt_key-false a b e n = go (order a b)
     go (level q) = absurd (n q)
     go (more h) = h
 
--- two runs from place i on
-module _ (a b : List ℕ) (i : ℕ) where
-  -- both have a byte there
-  pub less-step : i < length a → i < length b
-      → lt_key (drop i a) (drop i b) ≡ (ltb (get_or a i 0) (get_or b i 0) || eqb (get_or a i 0) (get_or b i 0) && lt_key (drop (i + 1) a) (drop (i + 1) b))
-  unfolding lt_key
-  less-step p q = rw (drop-cons a i 0 p, drop-cons b i 0 q, add-one i)
-
-  -- b is used up, and a is not
-  pub less-longer : i < length a → length b ≤ i → lt_key (drop i a) (drop i b) ≡ false
-  unfolding lt_key
-  less-longer p q = rw (drop-cons a i 0 p, drop_of_length-le b {i = i} q)
-
-  -- a is used up
-  pub less-end : length a ≤ i → lt_key (drop i a) (drop i b) ≡ ltb i (length b)
-  unfolding lt_key
-  less-end p = go (ltb i (length b)) refl
-    where
-      go : (t : Bool) → ltb i (length b) ≡ t → lt_key (drop i a) (drop i b) ≡ ltb i (length b)
-      go true e = rw (e, drop_of_length-le a {i = i} p, drop-cons b i 0 (ltb-true _ _ e))
-      go false e = rw (e, drop_of_length-le a {i = i} p, drop_of_length-le b {i = i} (ltb-false _ _ e))
+-- two runs from place i on, where both have a byte
+pub less-step : (a b : List ℕ) (i : ℕ) → i < length a → i < length b
+    → lt_key (drop i a) (drop i b) ≡ (ltb (get_or a i 0) (get_or b i 0) || eqb (get_or a i 0) (get_or b i 0) && lt_key (drop (i + 1) a) (drop (i + 1) b))
+unfolding lt_key
+less-step a b i p q = rw (drop-cons a i 0 p, drop-cons b i 0 q, add-one i)
 
 -- what both begin with decides nothing
 less-prefix : (w x y : List ℕ) → lt_key (w ++ x) (w ++ y) ≡ lt_key x y
@@ -133,3 +121,8 @@ less-pass n a b i e =
     let p : drop i a ≡ take n (drop i b) ++ drop (i + n) a = rw (← e, ← drop-drop n i a) (sym (take-append-drop n (drop i a))) in
     let q : drop i b ≡ take n (drop i b) ++ drop (i + n) b = rw (← drop-drop n i b) (sym (take-append-drop n (drop i b))) in
     sym (ap₂ lt_key p q ∙ less-prefix (take n (drop i b)) (drop (i + n) a) (drop (i + n) b))
+
+-- the slices' own order is the same
+pub less-cmp : (a b : List ℕ) → is_lt (slice_cmp nat_cmp a b) ≡ lt_key a b
+unfolding lt_key
+less-cmp a b = same_from_slice_cmp nat_cmp is_lt lt_key refl (λ y ys. refl) (λ x xs. refl) (λ x y xs ys o e. grind (arith, nat_tests)) a b _ refl

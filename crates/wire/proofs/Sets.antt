@@ -1,13 +1,14 @@
 -- Laws of `sets l i vs`, the list l with vs stored from place i on: the form of a promise on a lent table.
 -- Assumes nothing.
 use mathlib.Core.Path.{◌≡◌, refl, sym, ap, ◌∙◌}
-use mathlib.Core.List.{List, [], ◌∷◌, ◌++◌, append-nil}
+use mathlib.Core.List.{List, [], ◌∷◌, ◌++◌, append-nil, append_assoc}
 use Prim.Native.Nat.{ℕ, zero, suc, ◌+◌, ◌≤◌, ◌<◌}
 use native.Mathlib.Nat.{zero-add, add-zero, add-suc, suc-add}
 use native.Mathlib.Numerals.{add-one}
 use native.Mathlib.Omega.{arith}
 use lib.ListN.{length, get_or, take, drop, set, length-set, take-append-drop}
-use lib.Seq.{sets, sets-eq, drop-length, length-sets, set_out, set_comm, take-suc, length-take-le, get_or-set_same, get_or-set_other}
+use borrow.Rule.Slice.PartMut.{put_mid}
+use lib.Seq.{sets, sets-eq, drop-length, drop-drop, length-sets, set_out, set_comm, take-suc, length-take-le, get_or-set_same, get_or-set_other}
 
 -- a run of stores in two runs
 pub sets-append : (l : List ℕ) (i : ℕ) (a b : List ℕ) → sets l i (a ++ b) ≡ sets (sets l i a) (i + length a) b
@@ -65,3 +66,7 @@ sets-cut l i vs n e h =
 pub sets-whole : (l vs : List ℕ) → length vs ≡ length l → sets l 0 vs ≡ vs
 sets-whole l vs e =
     sets-eq vs l 0 (omega arith) ∙ rw (zero-add, e, drop-length l) (append-nil vs)
+
+-- a part of a slice that now holds what was stored
+pub sets-part : (l vs : List ℕ) (i n : ℕ) → n ≡ length vs → i + n ≤ length l → put_mid i n l vs ≡ sets l i vs
+sets-part l vs i n e h = rw (e, drop-drop, sets-eq vs l i (omega arith), append_assoc)

@@ -1,43 +1,58 @@
--- The bytes before i are equal in both, so what follows them decides: eight bytes that differ, as numbers, or the rest.
+-- The eights before i are the same in both; of the first that differ the numbers decide, and else what follows the eights.
 -- Assumes nothing.
 use native.Mathlib.Omega.{arith}
-use mathlib.Core.Path.{refl, sym, ◌∙◌}
-use Prim.Native.Nat.{◌-◌, ◌≤◌}
-use lib.ListN.{length}
-use Rattle.wire.proofs.Order.{less-pass}
+use mathlib.Core.Path.{◌≡◌, sym, ap, ap₂, ◌∙◌}
+use Prim.Native.Nat.{◌+◌, ◌-◌, ◌*◌, ◌/◌}
+use lib.ListN.{length, take, drop, length-drop}
+use lib.Seq.{take-length}
+use Rattle.std.specs.Ordering.{is_lt}
+use Rattle.wire.specs.Order.{lt_key}
+use Rattle.std.specs.Int.{w64, from_be_bytes}
+use Rattle.wire.specs.Le.{swapped, Bytes}
+use Rattle.wire.proofs.Chunks.{chunk-in}
+use Rattle.wire.proofs.Numbers.{high-le, same-high, le-lt}
 use Rattle.wire.proofs.Word.{less-word}
-use Rattle.wire.proofs.Laws.{le_same}
+use Rattle.wire.proofs.Order.{less-pass, less-cmp}
 use Rattle.wire.proofs.less.Goals as goal
-
-pub loop-i-init : goal.loop-i-init
-loop-i-init c = (omega arith, omega arith, refl)
-
-pub eight-y-requires : goal.eight-y-requires
-eight-y-requires c =
-    let b = c.args.b.now in
-    let fits : 8 ≤ length b - c.loop-i.i = c.if-b-i-ge8.true in
-    omega arith
 
 pub returns-then-x-y : goal.returns-then-x-y
 returns-then-x-y c =
     let a = c.args.a.now in
     let b = c.args.b.now in
     let l = c.loop-i in
-    let ea = c.eight-x.ensures in
-    let eb = c.eight-y.ensures in
-    let fits : 8 ≤ length b - l.i = c.if-b-i-ge8.true in
-    rw (c.swap.ensures, c.swap-then-x-y.ensures, ea.0, eb.0) (sym (less-word 8 a b l.i ea.1 eb.1 (omega arith) (omega arith) (omega arith) (omega arith) (λ e. c.if-x-y.true (ea.0 ∙ (e ∙ sym eb.0)))) ∙ l.invariant.2)
+    let j = l.i * 8 in
+    let la = c.as_chunks.ensures.front_len in
+    let lb = c.as_chunks-2.ensures.front_len in
+    let m = c.min-i-end.ensures in
+    let ba : Bytes a j 8 = λ k h. omega (arith, c.type_inv.a (j + k)) in
+    let bb : Bytes b j 8 = λ k h. omega (arith, c.type_inv.b (j + k)) in
+    let x = c.from_be_bytes-x.ensures ∙ ap (from_be_bytes w64) (chunk-in 8 (length a / 8) a c.as_chunks.result.0.now l.i c.as_chunks.ensures.front (omega arith)) ∙ high-le a j ba (omega arith) in
+    let y = c.from_be_bytes-y.ensures ∙ ap (from_be_bytes w64) (chunk-in 8 (length b / 8) b c.as_chunks-2.result.0.now l.i c.as_chunks-2.ensures.front (omega arith)) ∙ high-le b j bb (omega arith) in
+    rw (x, y) (sym (less-word 8 a b j ba bb (omega arith) (omega arith) (le-lt 8 a j ba) (le-lt 8 b j bb) (λ e. c.if-x-y.true (x ∙ (ap (swapped 8) e ∙ sym y)))) ∙ l.invariant)
 
 pub loop-i-preserved : goal.loop-i-preserved
 loop-i-preserved c =
     let a = c.args.a.now in
     let b = c.args.b.now in
     let l = c.loop-i in
-    let ea = c.eight-x.ensures in
-    let eb = c.eight-y.ensures in
-    let fits : 8 ≤ length b - l.i = c.if-b-i-ge8.true in
-    let next = le_same 8 a b l.i ea.1 eb.1 (omega arith) (omega arith) (sym ea.0 ∙ (c.if-x-y.false ∙ eb.0)) in
-    (omega arith, omega arith, less-pass 8 a b l.i next ∙ l.invariant.2)
+    let j = l.i * 8 in
+    let la = c.as_chunks.ensures.front_len in
+    let lb = c.as_chunks-2.ensures.front_len in
+    let m = c.min-i-end.ensures in
+    let x = c.from_be_bytes-x.ensures ∙ ap (from_be_bytes w64) (chunk-in 8 (length a / 8) a c.as_chunks.result.0.now l.i c.as_chunks.ensures.front (omega arith)) in
+    let y = c.from_be_bytes-y.ensures ∙ ap (from_be_bytes w64) (chunk-in 8 (length b / 8) b c.as_chunks-2.result.0.now l.i c.as_chunks-2.ensures.front (omega arith)) in
+    let next = same-high a b j (λ k. omega (arith, c.type_inv.a k)) (λ k. omega (arith, c.type_inv.b k)) (omega arith) (omega arith) (sym x ∙ (c.if-x-y.false ∙ y)) in
+    let past : (l.i + 1) * 8 ≡ j + 8 = omega arith in
+    rw past (less-pass 8 a b j next ∙ l.invariant)
 
 pub returns : goal.returns
-returns c = c.less_rest.ensures ∙ c.loop-i.invariant.2
+returns c =
+    let a = c.args.a.now in
+    let b = c.args.b.now in
+    let la = c.as_chunks.ensures.front_len in
+    let lb = c.as_chunks-2.ensures.front_len in
+    let n = c.min.result / 8 * 8 in
+    let at : n ≡ c.loop-i.i * 8 = omega (arith, c.min.ensures, c.min-i-end.ensures) in
+    let ra : take (length a - n) (drop n a) ≡ drop (c.loop-i.i * 8) a = rw at (rw (← length-drop) (take-length _)) in
+    let rb : take (length b - n) (drop n b) ≡ drop (c.loop-i.i * 8) b = rw at (rw (← length-drop) (take-length _)) in
+    c.is_lt.ensures ∙ ap is_lt c.cmp.ensures ∙ less-cmp _ _ ∙ ap₂ lt_key ra rb ∙ c.loop-i.invariant

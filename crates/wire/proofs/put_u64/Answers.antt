@@ -1,15 +1,11 @@
--- Past the end nothing is stored; else the eight bytes are, at once where they fit and else by halves, each of which stores what fits.
+-- The bytes that are put are the number's.
 -- Assumes nothing.
-use mathlib.Core.Path.{sym}
-use Rattle.wire.proofs.Laws.{le_bytes-split, le_bytes-low, le_bytes-length}
-use Rattle.wire.proofs.Sets.{sets-past, sets-append}
-use Rattle.wire.specs.Le.{le_bytes}
+use mathlib.Core.Path.{ap, ◌∙◌}
+use lib.Seq.{sets}
+use Rattle.wire.proofs.Numbers.{bytes-le}
 use Rattle.wire.proofs.put_u64.Goals as goal
-
-pub returns-then-d-at : goal.returns-then-d-at
-returns-then-d-at c = sym (sets-past c.args.d.now c.args.at (le_bytes 8 c.args.x) c.if-d-at.true)
 
 pub returns : goal.returns
 returns c =
-    let x = c.args.x in
-    rw (c.put_u32-2.ensures, c.put_u32.ensures, le_bytes-low 4 x, le_bytes-split 4 4 x, sets-append, le_bytes-length)
+    let a = c.args in
+    c.put.ensures ∙ ap (sets a.d.now a.at) (c.to_le_bytes.ensures ∙ bytes-le 8 a.x)
