@@ -7,7 +7,7 @@ use mathlib.Core.Logic.{◌⊎◌, inl, inr}
 use denote.Ref.{Bor}
 use Rattle.std.specs.Prelude.{Option, Some, None, unwrap_or}
 use Rattle.std.specs.Slice.{IsGetRangeResult}
-use Rattle.std.proofs.lemmas.List.{take-take}
+use Rattle.std.proofs.lemmas.List.{drop-take, take-take}
 use borrow.Author.Tests.{lt-leb, le-leb}
 use lib.Dec.{leb}
 use Prim.Native.Nat.{ℕ, zero, suc, ◌+◌, ◌-◌, ◌≤◌, ◌<◌}
@@ -16,7 +16,6 @@ use native.Mathlib.Omega.{arith}
 use lib.ListN.{length, get_or, take, drop, length-take, length-drop}
 use lib.Seq.{get_or-take, get_or-drop, ext_get_or, length-take-le}
 use Rattle.wire.specs.Le.{le}
-use Rattle.pack.proofs.Parts.{drop-part}
 use Rattle.pack.specs.Invocation.{instruction_at}
 use Rattle.pack.specs.Items.{item_end}
 
@@ -78,5 +77,5 @@ shown p t from to h (Some x) d e g =
     let a : from ≤ to = g.0.0 in
     let b : to ≤ t = omega (arith, long, g.0.1) in
     let n : from + (t - from) ≡ t = omega arith in
-    let part : drop from (take t p) ≡ take (t - from) (drop from p) = rw n at (drop-part from (t - from) p) in
+    let part : drop from (take t p) ≡ take (t - from) (drop from p) = rw n at (drop-take from (t - from) p) in
     rw (le-leb from to a, le-leb to t b) (g.0.2 ∙ rw (part, take-take (to - from) (t - from) (drop from p) (omega arith)))

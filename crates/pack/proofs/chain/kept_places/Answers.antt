@@ -4,10 +4,10 @@ use Rattle.pack.specs.Items.{group_end, groups_from}
 use Rattle.pack.specs.Loops.{kept_from}
 use Rattle.pack.proofs.Stores.{sets-cons}
 use Rattle.pack.proofs.Places.{Next, next-group, groups-nil, kept_cons, kept-skip}
-use Prim.Native.Nat.{ℕ, suc, ◌-◌}
-use native.Mathlib.Nat.{zero-add, add-zero}
+use Prim.Native.Nat.{ℕ, ◌-◌}
+use native.Mathlib.Nat.{add-zero}
 use native.Mathlib.Omega.{arith}
-use mathlib.Core.Path.{◌≡◌, refl, sym, ap, ◌∙◌}
+use mathlib.Core.Path.{◌≡◌, sym, ap, ◌∙◌}
 use mathlib.Core.List.{List, ◌∷◌}
 use lib.ListN.{length}
 use Rattle.pack.proofs.chain.kept_places.Goals as goal
@@ -48,9 +48,6 @@ kept c =
     rw (next-group (section c) l.at l.invariant.1.0 l.invariant.1.1 (omega arith) l.invariant.1.2).cons
     (kept_cons (section c) c.args.o (here c) (rest c) (sym c.keeps.ensures ∙ c.if-not-keeps.false))
 
-pub loop-at-init : goal.loop-at-init
-loop-at-init c = (omega arith, (suc (length c.args.s.now), omega arith, c.requires.0, zero-add _, refl))
-
 pub inners_end-at-requires : goal.inners_end-at-requires
 unfolding group_end
 inners_end-at-requires c = rw c.u16_at.ensures (next (goal.at.inners_end-at-requires c).In-loop-at).end
@@ -70,14 +67,8 @@ loop-at-preserved-then-not-keeps c =
     let k = kept-skip s a.o l.at rest (sym c.keeps.ensures ∙ c.if-not-keeps.true) in
     (omega (arith, x.end), (f - 1, omega (arith, x.grows, l.invariant.1.1), rw e x.fill, rw e (rw (x.cons, k) at l.invariant.1.3), rw e (rw (x.cons, k) at l.invariant.1.4)))
 
-pub offset_bounds-place-n : goal.offset_bounds-place-n
-offset_bounds-place-n c = omega (arith, ap length (kept (goal.at.offset_bounds-place-n c).Else-not-keeps), c.loop-at.invariant.1.3)
-
 pub bounds-place-n : goal.bounds-place-n
 bounds-place-n c = omega (arith, ap length (kept (goal.at.bounds-place-n c).Else-not-keeps), c.loop-at.invariant.1.3)
-
-pub overflow_add-n : goal.overflow_add-n
-overflow_add-n c = omega (arith, ap length (kept (goal.at.overflow_add-n c).Else-not-keeps), c.loop-at.invariant.1.3)
 
 pub loop-at-smaller : goal.loop-at-smaller
 loop-at-smaller c = omega (arith, ended (goal.at.loop-at-smaller c).After-inners_end-at, (next (goal.at.loop-at-smaller c).In-loop-at).grows, (next (goal.at.loop-at-smaller c).In-loop-at).end)
