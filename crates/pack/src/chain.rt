@@ -49,11 +49,10 @@ fn kept_places(s: &[u8], o: usize, place: &mut [u16; 1024]) -> usize
     while at < s.len() {
         let g = at;
         at = inners_end(s, wire::u16_at(s, g + 4) as usize, g + 6);
-        if !keeps(s, o, g) {
-            continue;
+        if keeps(s, o, g) {
+            place[n] = g as u16;
+            n += 1;
         }
-        place[n] = g as u16;
-        n += 1;
     }
     n
 }
