@@ -21,7 +21,7 @@ use Rattle.pack.specs.View.{outer_in, groups_in, view_of}
 use Rattle.pack.specs.Flatten.{numbered, inside, outermost, flatten_from, invocation, flatten}
 use Rattle.pack.specs.Verdict.{refusal_number, verdict}
 use Rattle.pack.specs.Layout.{layout, spread_of, placed_at, raised, at_of, place_held, Flattened}
-use Rattle.pack.proofs.Parts.{at_map}
+use Rattle.std.proofs.lemmas.List.{get_or-map}
 use Rattle.pack.proofs.Slices.{slice, instruction-in}
 use Rattle.pack.proofs.Good.{passed, section-is}
 use Rattle.pack.proofs.Kept.{Each, outers-each, groups-each}
@@ -137,7 +137,7 @@ module _ (p : List ℕ) (r : ℕ) (at : List ℕ) (places : List Place) (e : ref
   holds : {A : Type 0} (f : Position × ℕ → A) (l : List A) (d : A) → l ≡ sets (replicate 1024 d) 0 (map f (layout p)) → (i : ℕ) → i < length (layout p) → get_or l i d ≡ f (here i)
   holds f l d q i h =
       let m = length-map (layout p) f in
-      rw q (laid-at (replicate 1024 d) (map f (layout p)) i d (omega (arith, few, length-replicate 1024 d)) (omega arith) ∙ at_map f (layout p) i (outermost 0, 0) d h)
+      rw q (laid-at (replicate 1024 d) (map f (layout p)) i d (omega (arith, few, length-replicate 1024 d)) (omega arith) ∙ get_or-map f (layout p) i (outermost 0, 0) d h)
 
   -- and each of them, entry by entry: its position in one array, its instruction at the offset that the other holds
   pub entry : (i : ℕ) → i < r → (d : Invocation)
@@ -145,4 +145,4 @@ module _ (p : List ℕ) (r : ℕ) (at : List ℕ) (places : List Place) (e : ref
   unfolding position_in_places
   entry i h d =
       let k : i < length (layout p) = omega (arith, w.count) in
-      rw (layout_is p e, at_map (standing p) (layout p) i (outermost 0, 0) d k, holds at_of at 0 w.ats i k, holds place_held places blank_place w.runs i k, position-held (here i))
+      rw (layout_is p e, get_or-map (standing p) (layout p) i (outermost 0, 0) d k, holds at_of at 0 w.ats i k, holds place_held places blank_place w.runs i k, position-held (here i))

@@ -63,10 +63,6 @@ module _ (s : List ℕ) (n at : ℕ) (r : Reached s n at) where
         record { inside = w.0; few = omega (arith, r.few); fill = w.1; count = omega (arith, r.count) },
       )
 
-  -- it is over
-  pub reached-last : length s ≤ at → n ≡ length (outers_at s)
-  reached-last h = let x = ap length (outers-nil s n at (omega (arith, r.few, r.inside)) h) in omega (arith, r.count)
-
 -- a group has a header of 6 bytes, and 13 and more for each instruction
 pub group-grows : (s : List ℕ) (at : ℕ) → at + 6 + 13 * count_at s at ≤ group_end s at
 unfolding group_end

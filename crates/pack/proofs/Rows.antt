@@ -16,7 +16,7 @@ use Rattle.ids.specs.Which.{which, program_at}
 use Rattle.ids.specs.declared.Id.TheVariants.{Unresolved}
 use Rattle.pack.specs.Items.{rows}
 use Rattle.pack.specs.View.{keys_in, balances_in, key_in, program_in}
-use Rattle.pack.proofs.Parts.{drop-part, at_map}
+use Rattle.std.proofs.lemmas.List.{drop-take, get_or-map}
 use Rattle.pack.proofs.Sizes.{rows-length, key-rows}
 use Rattle.pack.proofs.Slices.{le_in}
 
@@ -29,14 +29,14 @@ row_at w (suc n) s (suc i) d h = row_at w n (drop w s) i d (omega arith) ∙ rw 
 
 -- a row of n bytes and more, k of them in front
 field : (k n w i : ℕ) (s : List ℕ) → k + n ≡ w → drop k (take w (drop (i * w) s)) ≡ take n (drop (i * w + k) s)
-field k n w i s e = rw (← e) (drop-part k n (drop (i * (k + n)) s) ∙ rw (drop-drop k (i * (k + n)) s))
+field k n w i s e = rw (← e) (drop-take k n (drop (i * (k + n)) s) ∙ rw (drop-drop k (i * (k + n)) s))
 
 -- section 0: flag and key of row i
 pub key_row : (s : List ℕ) (i : ℕ) (d : ℕ × Key) → i < length s / 33 → get_or (keys_in s) i d ≡ (get_or s (i * 33) 0, take 32 (drop (i * 33 + 1) s))
 unfolding keys_in
 key_row s i d h =
     let n = length s / 33 in
-    at_map (λ (r : List ℕ). (get_or r 0 0, drop 1 r)) (rows 33 n s) i [] d (rw rows-length h)
+    get_or-map (λ (r : List ℕ). (get_or r 0 0, drop 1 r)) (rows 33 n s) i [] d (rw rows-length h)
     ∙ rw (row_at 33 n s i [] h, get_or-take 33 (drop (i * 33) s) 0 0 (omega arith), get_or-drop (i * 33) s 0 0, add-zero, field 1 32 33 i s refl)
 
 -- section 1: account index and mint of row i
@@ -44,7 +44,7 @@ pub balance-row : (s : List ℕ) (i : ℕ) (d : ℕ × Key) → i < length s / 3
 unfolding balances_in
 balance-row s i d h =
     let n = length s / 36 in
-    at_map (λ (r : List ℕ). (le 4 r 0, drop 4 r)) (rows 36 n s) i [] d (rw rows-length h)
+    get_or-map (λ (r : List ℕ). (le 4 r 0, drop 4 r)) (rows 36 n s) i [] d (rw rows-length h)
     ∙ rw (row_at 36 n s i [] h, field 4 32 36 i s refl, le_in s (i * 36) 36 4 0 (simp (length-take, length-drop) (omega arith)), add-zero)
 
 pub balances-length : (s : List ℕ) → length (balances_in s) ≡ length s / 36
@@ -56,7 +56,7 @@ module _ {A : Type 0} (f : ℕ × Key → A) (s : List ℕ) (i : ℕ) (z : A) wh
   in-range : i < length s / 33 → get_or (map f (keys_in s)) i z ≡ f (get_or s (i * 33) 0, take 32 (drop (i * 33 + 1) s))
   in-range h =
       let n = key-rows s in
-      at_map f (keys_in s) i (0, []) z (omega arith) ∙ ap f (key_row s i (0, []) h)
+      get_or-map f (keys_in s) i (0, []) z (omega arith) ∙ ap f (key_row s i (0, []) h)
 
   out_of_range : length s / 33 ≤ i → get_or (map f (keys_in s)) i z ≡ z
   out_of_range h = get_or-eq_default (map f (keys_in s)) z {n = i} (rw (length-map (keys_in s) f, key-rows s) h)

@@ -1,7 +1,15 @@
 -- What stands in a part of a pack stands in the pack, as much further on as the part starts.
 -- Assumes nothing.
 use mathlib.Core.Path.{◌≡◌, refl, sym, ap, ◌∙◌}
-use mathlib.Core.List.{List}
+use mathlib.Core.Bool.{cond, ◌&&◌, and-false}
+use mathlib.Core.List.{List, []}
+use mathlib.Core.Logic.{◌⊎◌, inl, inr}
+use denote.Ref.{Bor}
+use Rattle.std.specs.Prelude.{Option, Some, None, unwrap_or}
+use Rattle.std.specs.Slice.{IsGetRangeResult}
+use Rattle.std.proofs.lemmas.List.{drop-take, take-take}
+use borrow.Author.Tests.{lt-leb, le-leb}
+use lib.Dec.{leb}
 use Prim.Native.Nat.{ℕ, zero, suc, ◌+◌, ◌-◌, ◌≤◌, ◌<◌}
 use native.Mathlib.Nat.{add_assoc}
 use native.Mathlib.Omega.{arith}
@@ -10,6 +18,12 @@ use lib.Seq.{get_or-take, get_or-drop, ext_get_or, length-take-le}
 use Rattle.wire.specs.Le.{le}
 use Rattle.pack.specs.Invocation.{instruction_at}
 use Rattle.pack.specs.Items.{item_end}
+
+-- a number that stands behind the first bytes
+pub le_from : (p : List ℕ) (from k at : ℕ) → le k (drop from p) at ≡ le k p (from + at)
+unfolding le
+le_from p from zero at = refl
+le_from p from (suc k) at = rw (le_from p from k at, get_or-drop from p (at + k) 0, ← add_assoc from at k)
 
 module _ (p : List ℕ) (from n : ℕ) where
   abbrev pub slice : List ℕ
@@ -46,3 +60,22 @@ module _ (p : List ℕ) (from n : ℕ) where
       let x : from + (at + 8) ≡ from + at + 8 = omega arith in
       let y : from + (at + 8 + le 2 slice (at + 4)) ≡ from + at + 8 + le 2 slice (at + 4) = omega arith in
       rw (a, part_in (le 2 slice (at + 4)) (at + 8) (omega arith), part_in (le 2 slice (at + 6)) (at + 8 + le 2 slice (at + 4)) (omega arith), x, y, b, c)
+
+-- a part that `get` shows of the first t bytes, or no bytes where it shows none
+pub shown : (p : List ℕ) (t from to : ℕ) → t ≤ length p → (r : Option (Bor (List ℕ))) (d : Bor (List ℕ)) → d.now ≡ [] → IsGetRangeResult (take t p) from to r
+    → (unwrap_or r d).now ≡ cond (leb from to && leb to t) (take (to - from) (drop from p)) []
+shown p t from to h None d e g = rw e (go g.0)
+  where
+    long : length (take t p) ≡ t
+    long = length-take-le t p h
+
+    go : (to < from) ⊎ (length (take t p) < to) → [] ≡ cond (leb from to && leb to t) (take (to - from) (drop from p)) []
+    go (inl l) = rw (lt-leb from to l)
+    go (inr l) = rw (lt-leb to t (omega (arith, long)), and-false (leb from to))
+shown p t from to h (Some x) d e g =
+    let long = length-take-le t p h in
+    let a : from ≤ to = g.0.0 in
+    let b : to ≤ t = omega (arith, long, g.0.1) in
+    let n : from + (t - from) ≡ t = omega arith in
+    let part : drop from (take t p) ≡ take (t - from) (drop from p) = rw n at (drop-take from (t - from) p) in
+    rw (le-leb from to a, le-leb to t b) (g.0.2 ∙ rw (part, take-take (to - from) (t - from) (drop from p) (omega arith)))

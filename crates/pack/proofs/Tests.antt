@@ -1,25 +1,37 @@
--- A test at each number below n, from what a loop has seen, and what an answer tells that is there only where a test holds.
+-- A test at each number below n, and what an answer tells that is there only where a test holds.
 -- Assumes nothing.
-use mathlib.Core.Path.{◌≡◌, refl, sym, ◌∙◌}
-use mathlib.Core.Bool.{Bool, true, false, cond, true≢false}
-use Prim.Native.Nat.{ℕ, zero, suc, ◌<◌}
+use mathlib.Core.Path.{◌≡◌, refl, ◌∙◌}
+use mathlib.Core.Bool.{Bool, true, false, cond, ◌&&◌}
+use Prim.Native.Nat.{ℕ, zero, suc, ◌+◌, ◌<◌}
+use native.Mathlib.Nat.{add-zero, add-suc, suc-add, zero-add}
+use native.Mathlib.Numerals.{add-one}
 use native.Mathlib.Omega.{arith}
 use Rattle.std.specs.Prelude.{Some, None}
+use Rattle.std.specs.List.{list_all, range_with_len}
 use Rattle.wire.specs.Below.{all_below}
-use Rattle.wire.proofs.Below.{below_at}
 
--- it held at each
-pub all-below : (f : ℕ → Bool) (n : ℕ) → ((k : ℕ) → k < n → f k ≡ true) → all_below f n ≡ true
-all-below f zero h = refl
-all-below f (suc n) h = rw (h n (omega arith), all-below f n (λ k l. h k (omega arith)))
+-- two tests that say the same of each of them
+pub same-below : (f g : ℕ → Bool) (n : ℕ) → ((k : ℕ) → k < n → f k ≡ g k) → all_below f n ≡ all_below g n
+same-below f g zero h = refl
+same-below f g (suc n) h = rw (h n (omega arith), same-below f g n (λ k l. h k (omega arith)))
 
--- it failed at one
-pub not-below : (f : ℕ → Bool) (n k : ℕ) → k < n → f k ≡ false → all_below f n ≡ false
-not-below f n k l e = go (all_below f n) refl
+-- the first of them in front
+front : (f : ℕ → Bool) (n : ℕ) → all_below f (suc n) ≡ (f 0 && all_below (λ k. f (suc k)) n)
+front f zero = refl
+front f (suc n) = rw (front f n) (swapped (f (suc n)) (f 0) (all_below (λ k. f (suc k)) n))
   where
-    go : (t : Bool) → all_below f n ≡ t → t ≡ false
-    go true q = absurd (true≢false (sym (below_at f n q k l) ∙ e))
-    go false q = refl
+    swapped : (a b c : Bool) → (a && (b && c)) ≡ (b && (a && c))
+    swapped true b c = refl
+    swapped false true c = refl
+    swapped false false c = refl
+
+counted : (f : ℕ → Bool) (a n : ℕ) → list_all f (range_with_len a n) ≡ all_below (λ k. f (a + k)) n
+counted f a zero = refl
+counted f a (suc n) = rw (front (λ k. f (a + k)) n, counted f (a + 1) n) (simp (add-zero, add-one, suc-add, add-suc))
+
+-- and as `all` over a range goes through them
+pub in-range : (f : ℕ → Bool) (n : ℕ) → list_all f (range_with_len 0 n) ≡ all_below f n
+in-range f n = counted f 0 n ∙ simp zero-add
 
 module _ {A : Type 0} where
   -- it is not there

@@ -19,20 +19,6 @@ pub(crate) struct Chains {
     pub(crate) first: [u16; 1024],
 }
 
-// How many instructions section 2 has.
-fn outer_count(s: &[u8]) -> usize
-    requires { outers_whole s.now ≡ true }
-    ensures { result ≡ length (outers_at s.now) }
-{
-    let mut at = 0;
-    let mut n = 0;
-    while at < s.len() {
-        at = super::item_end(s, at);
-        n += 1;
-    }
-    n
-}
-
 // Where n instructions of a group end, from `at` on.
 fn inners_end(s: &[u8], n: usize, at: usize) -> usize
     requires { inners_end s.now n at ≤ length s.now }
@@ -50,10 +36,7 @@ fn keeps(s: &[u8], o: usize, g: usize) -> bool
     requires { g ≤ length s.now }
     ensures { result ≡ keeps_of s.now o g }
 {
-    if o <= wire::u32_at(s, g) as usize {
-        return false;
-    }
-    0 < wire::u16_at(s, g + 4)
+    (wire::u32_at(s, g) as usize) < o && 0 < wire::u16_at(s, g + 4)
 }
 
 // Where the groups that are remembered start.
@@ -66,11 +49,10 @@ fn kept_places(s: &[u8], o: usize, place: &mut [u16; 1024]) -> usize
     while at < s.len() {
         let g = at;
         at = inners_end(s, wire::u16_at(s, g + 4) as usize, g + 6);
-        if !keeps(s, o, g) {
-            continue;
+        if keeps(s, o, g) {
+            place[n] = g as u16;
+            n += 1;
         }
-        place[n] = g as u16;
-        n += 1;
     }
     n
 }
@@ -93,7 +75,7 @@ pub(crate) fn chain(pack: &[u8], chains: &mut Chains)
     requires { (refusal_number (verdict pack.now) ≡ 0) × (chains.old.first ≡ zeros 1024) }
     ensures { AllChained pack.now chains.new }
 {
-    let o = outer_count(super::section(pack, 2));
+    let o = super::whole::outers(super::section(pack, 2)).unwrap_or(0);
     let s = super::section(pack, 3);
     let n = kept_places(s, o, &mut chains.place);
     link(s, n, chains);

@@ -1,28 +1,21 @@
 // Reading back an instruction that stands at an offset of a pack: what these three answer is `instruction_at` of that offset.
 //
 // Total, as the readers of `wire` are: past the end of the pack there are zeros and no bytes.
-ghost use Rattle.std.specs.Prelude.{◌≡◌, ◌+◌, ◌≤◌, ltb, length, take, drop};
+ghost use Rattle.std.specs.Prelude.{◌≡◌, take, drop};
 ghost use Rattle.pack.specs.Invocation.{instruction_at};
 
-// Whether the end of the pack cuts the eight bytes of a header short.
-fn cut(pack: &[u8], at: usize) -> bool
-    ensures { result ≡ ltb (length pack.now) (at + 8) }
+// What stands from an offset on.
+fn rest(s: &[u8], at: usize) -> &[u8]
+    ensures { result.now ≡ drop at s.now }
 {
-    if pack.len() < 8 {
-        return true;
-    }
-    pack.len() - 8 < at
+    s.get(at..).unwrap_or(&[])
 }
 
-// Up to `len` bytes from `from` on, as many as there are.
-fn part(pack: &[u8], from: usize, len: usize) -> &[u8]
-    requires { from ≤ length pack.now }
-    ensures { result.now ≡ take len (drop from pack.now) }
+// The first n bytes, as many as there are.
+fn first(s: &[u8], n: usize) -> &[u8]
+    ensures { result.now ≡ take n s.now }
 {
-    if pack.len() - from < len {
-        return &pack[from..];
-    }
-    &pack[from..from + len]
+    s.get(..n).unwrap_or(s)
 }
 
 // The index of the program's key.
@@ -36,22 +29,15 @@ pub fn program(pack: &[u8], at: usize) -> u32
 pub fn accounts(pack: &[u8], at: usize) -> &[u8]
     ensures { result.now ≡ (instruction_at pack.now at).accounts }
 {
-    if cut(pack, at) {
-        return &pack[..0];
-    }
-    part(pack, at + 8, super::two(pack, at + 4) as usize)
+    let item = rest(pack, at);
+    first(rest(item, 8), wire::u16_at(item, 4) as usize)
 }
 
 // The instruction's data.
 pub fn data(pack: &[u8], at: usize) -> &[u8]
     ensures { result.now ≡ (instruction_at pack.now at).bytes }
 {
-    if cut(pack, at) {
-        return &pack[..0];
-    }
-    let from = at + 8 + super::two(pack, at + 4) as usize;
-    if pack.len() < from {
-        return &pack[..0];
-    }
-    part(pack, from, super::two(pack, at + 6) as usize)
+    let item = rest(pack, at);
+    let from = 8 + wire::u16_at(item, 4) as usize;
+    first(rest(item, from), wire::u16_at(item, 6) as usize)
 }

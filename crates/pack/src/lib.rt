@@ -53,12 +53,9 @@ impl Refusal {
         ensures { result ≡ place_of (Err self) }
     {
         match self {
-            Refusal::Mark => 0,
-            Refusal::Starts => 0,
             Refusal::Section(k) => k,
-            Refusal::Keys => 0,
             Refusal::Balances => 1,
-            Refusal::Invocations => 0,
+            _ => 0,
         }
     }
 }
@@ -92,10 +89,7 @@ pub(crate) fn judge(pack: &[u8]) -> Result<(), Refusal>
     if !whole::balances(balances, keys.len() / 33) {
         return Err(Refusal::Balances);
     }
-    if 1024 < outers {
-        return Err(Refusal::Invocations);
-    }
-    if 1024 - outers < inners {
+    if 1024 < outers || 1024 - outers < inners {
         return Err(Refusal::Invocations);
     }
     Ok(())

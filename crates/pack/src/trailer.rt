@@ -6,24 +6,14 @@ ghost use Rattle.pack.specs.Sections.{start_of, section_of, marked as marked_of,
 pub(crate) fn marked(pack: &[u8]) -> bool
     ensures { result ≡ marked_of pack.now }
 {
-    if pack.len() < 24 {
-        return false;
-    }
-    if 61440 < pack.len() {
-        return false;
-    }
-    let at = pack.len() - 4;
-    wire::equal(&pack[at..], b"RTP1")
+    (24..=61440).contains(&pack.len()) && pack.ends_with(b"RTP1")
 }
 
 // Where the trailer stands.
 fn trailer_at(pack: &[u8]) -> usize
     ensures { result ≡ length pack.now - 24 }
 {
-    if pack.len() < 24 {
-        return 0;
-    }
-    pack.len() - 24
+    pack.len().saturating_sub(24)
 }
 
 // Where section k starts; the trailer's place for k above 4.
@@ -42,34 +32,18 @@ pub(crate) fn start(pack: &[u8], k: usize) -> usize
 pub(crate) fn ordered(pack: &[u8]) -> bool
     ensures { result ≡ ordered_of pack.now }
 {
-    if start(pack, 0) != 0 {
-        return false;
-    }
-    for k in 0..5 {
-        if start(pack, k + 1) < start(pack, k) {
-            return false;
-        }
-    }
-    true
+    start(pack, 0) == 0 && (0..5).all(|k| start(pack, k) <= start(pack, k + 1))
 }
 
 // Section k, a part of the pack; empty where the starts do not allow it.
 pub fn section(pack: &[u8], k: usize) -> &[u8]
     ensures { result.now ≡ section_of pack.now k }
 {
-    if pack.len() < 24 {
-        return &pack[..0];
-    }
     if 5 <= k {
-        return &pack[..0];
+        return &[];
     }
-    let from = start(pack, k);
-    let to = start(pack, k + 1);
-    if to < from {
-        return &pack[..0];
-    }
-    if pack.len() - 24 < to {
-        return &pack[..0];
-    }
-    &pack[from..to]
+    let sections = &pack[..trailer_at(pack)];
+    sections
+        .get(start(pack, k)..start(pack, k + 1))
+        .unwrap_or(&[])
 }

@@ -9,29 +9,14 @@ ghost use Rattle.pack.specs.Flatten.{kept_in};
 pub(crate) fn keys(s: &[u8]) -> bool
     ensures { result ≡ keys_fill s.now }
 {
-    if s.len() % 33 != 0 {
-        return false;
-    }
-    let rows = s.len() / 33;
-    for i in 0..rows {
-        if 1 < s[i * 33] {
-            return false;
-        }
-    }
-    true
+    s.len() % 33 == 0 && (0..s.len() / 33).all(|i| s[i * 33] <= 1)
 }
 
 // Section 1: whether the account index of every row, whatever its mint is, is below the number of keys.
 pub(crate) fn balances(s: &[u8], keys: usize) -> bool
     ensures { result ≡ balances_named keys (balances_in s.now) }
 {
-    let rows = s.len() / 36;
-    for i in 0..rows {
-        if keys <= super::four(s, i * 36) as usize {
-            return false;
-        }
-    }
-    true
+    (0..s.len() / 36).all(|i| (super::four(s, i * 36) as usize) < keys)
 }
 
 // Section 2: instructions.

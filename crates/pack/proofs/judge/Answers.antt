@@ -12,7 +12,7 @@ use Rattle.pack.proofs.Sizes.{key-rows, keys_length, invocations-length}
 use Rattle.std.proofs.lemmas.Result.{err_from_is_err_and}
 use Rattle.pack.proofs.Tests.{none_if, some_if}
 use Rattle.pack.proofs.Limits.{Whole, more-keys, unnamed, most, more-invocations}
-use Prim.Native.Nat.{ℕ, ◌+◌, ◌%◌, ◌≤◌}
+use Prim.Native.Nat.{ℕ, ◌+◌, ◌%◌, ◌<◌, ◌≤◌}
 use mathlib.Core.Path.{◌≡◌, sym, ap, ◌∙◌}
 use mathlib.Core.Bool.{true, false, cond}
 use mathlib.Core.List.{List}
@@ -21,7 +21,7 @@ use native.Mathlib.Omega.{arith}
 use lib.Dec.{eqb}
 use lib.ListN.{length}
 use Rattle.pack.proofs.judge.Goals as goal
-use Rattle.pack.proofs.judge.Goals.{After-balances, After-section, After-section-2, After-section-3, Else-keys-gt256, Else-section-ne0}
+use Rattle.pack.proofs.judge.Goals.{After-balances, After-section, After-section-2, After-section-3, Else-keys-gt256, Else-section-ne0, then-outers-gt1024-via-then-outers-gt1024, then-outers-gt1024-via-else-outers-gt1024+then-outers-inners}
 
 -- what a count of a section tells, of a section that was read from the pack
 outers_known : (p s : List ℕ) (r : Option ℕ) (n : ℕ) → s ≡ section_of p 2 → r ≡ cond (outers_whole s) (Some (length (outer_in s))) None → r ≡ Some n
@@ -155,13 +155,12 @@ pub returns-then-outers-gt1024 : goal.returns-then-outers-gt1024
 returns-then-outers-gt1024 c =
     let b = sym (named-is (goal.at.returns-then-outers-gt1024 c).After-balances) ∙ c.if-not-balances.false in
     let n = counted (goal.at.returns-then-outers-gt1024 c).After-section-3 in
+    let many : 1024 < c.in_ok-outers.outers + c.in_ok-inners.inners =
+    elim c.then-outers-gt1024.branch [
+      | then-outers-gt1024-via-then-outers-gt1024 w ↦ omega arith
+      | then-outers-gt1024-via-else-outers-gt1024+then-outers-inners w ↦ omega arith
+    ] in
     sym (more-invocations c.args.pack.now (whole (goal.at.returns-then-outers-gt1024 c).Else-section-ne0) (few_keys (goal.at.returns-then-outers-gt1024 c).Else-keys-gt256) b (omega (arith, n)))
-
-pub returns-then-outers-inners : goal.returns-then-outers-inners
-returns-then-outers-inners c =
-    let b = sym (named-is (goal.at.returns-then-outers-inners c).After-balances) ∙ c.if-not-balances.false in
-    let n = counted (goal.at.returns-then-outers-inners c).After-section-3 in
-    sym (more-invocations c.args.pack.now (whole (goal.at.returns-then-outers-inners c).Else-section-ne0) (few_keys (goal.at.returns-then-outers-inners c).Else-keys-gt256) b (omega (arith, n)))
 
 pub returns : goal.returns
 returns c =

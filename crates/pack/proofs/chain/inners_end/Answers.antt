@@ -4,13 +4,9 @@ use Rattle.pack.specs.Items.{inners_end}
 use Rattle.pack.proofs.Walk.{inners-grow}
 use Rattle.pack.proofs.Places.{member-end}
 use Prim.Native.Nat.{ℕ, ◌-◌}
-use native.Mathlib.Nat.{sub-zero}
 use native.Mathlib.Omega.{arith}
 use mathlib.Core.Path.{◌≡◌, ◌∙◌}
 use Rattle.pack.proofs.chain.inners_end.Goals as goal
-
-pub loop-init : goal.loop-init
-loop-init c = simp sub-zero
 
 pub overflow_add-to : goal.overflow_add-to
 overflow_add-to c = let l = c.loop in let a = c.args in let g = inners-grow a.s.now (a.n - l.counter) l.to in omega (arith, c.loop.invariant)

@@ -6,14 +6,14 @@ use native.Mathlib.Omega.{arith}
 use borrow.Author.Tests.{lt-ltb, le-ltb}
 use Rattle.pack.proofs.chain.keeps.Goals as goal
 
-pub returns-then-o-u32_at : goal.returns-then-o-u32_at
+pub returns-then-u32_at-o : goal.returns-then-u32_at-o
 unfolding keeps
-returns-then-o-u32_at c =
+returns-then-u32_at-o c =
     let a = c.args in
-    rw (le-ltb (le 4 a.s.now a.g) a.o (omega (arith, c.u32_at.ensures)))
+    rw (c.u16_at.ensures, lt-ltb (le 4 a.s.now a.g) a.o (omega (arith, c.u32_at.ensures)))
 
-pub returns : goal.returns
+pub returns-else-u32_at-o : goal.returns-else-u32_at-o
 unfolding keeps
-returns c =
+returns-else-u32_at-o c =
     let a = c.args in
-    rw (lt-ltb (le 4 a.s.now a.g) a.o (omega (arith, c.u32_at.ensures)), c.u16_at.ensures)
+    rw (c.u32_at.ensures, le-ltb (le 4 a.s.now a.g) a.o (omega (arith, c.u32_at.ensures)))

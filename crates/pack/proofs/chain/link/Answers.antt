@@ -57,12 +57,3 @@ loop-k-preserved c =
           (λ t x y. l.invariant.4 t (omega arith) y),
       λ i h. headed chains.first c.u32_at-i.result (k + 1) (omega arith) i ∙ rw (l.invariant.5 i h, u) (first_step a.s.now gs k l.k s i (omega arith)),
     )
-
-pub returns : goal.returns
-returns c =
-    let l = c.loop-k in
-    let a = c.args in
-    let z : l.k ≡ 0 = omega arith in
-    let long : length a.chains.now.place ≡ 1024 = omega arith in
-    let m : length (take a.n l.chains.place) ≡ a.n = simp length-take (omega (arith, c.requires.n_bound, ap length l.invariant.0)) in
-    (l.invariant.0, rw (← l.invariant.0) (record { links = λ t h. l.invariant.4 t (omega arith) (omega arith); heads = λ i h. rw z at (l.invariant.5 i h) }))

@@ -1,47 +1,17 @@
--- The data follows the index bytes; where the header is cut short, or the index bytes are, there is none.
+-- The data stands behind the index bytes.
 -- Assumes nothing.
 use Rattle.wire.specs.Le.{le}
-use Prim.Native.Nat.{◌+◌, ◌≤◌}
-use lib.ListN.{length}
-use Rattle.pack.proofs.Parts.{past}
 use Rattle.pack.specs.Invocation.{instruction_at}
-use mathlib.Core.Bool.{false}
-use mathlib.Core.Path.{◌≡◌, sym, ◌∙◌}
-use borrow.Author.Tests.{ltb-true, ltb-false}
-use native.Mathlib.Omega.{arith}
+use Rattle.pack.proofs.Slices.{le_from}
+use Prim.Native.Nat.{ℕ, ◌+◌}
+use native.Mathlib.Nat.{add_assoc}
+use lib.Seq.{drop-drop}
 use Rattle.pack.proofs.item.data.Goals as goal
-use Rattle.pack.proofs.item.data.Goals.{After-cut}
-
-whole : (c : After-cut) → c.cut.result ≡ false → c.args.at + 8 ≤ length c.args.pack.now
-whole c e = ltb-false _ _ (sym c.cut.ensures ∙ e)
-
-pub returns-then-cut : goal.returns-then-cut
-unfolding instruction_at
-returns-then-cut c =
-    let a = c.args in
-    let p = a.pack.now in
-    let short = ltb-true (length p) (a.at + 8) (sym c.cut.ensures ∙ c.if-cut.true) in
-    sym (past (le 2 p (a.at + 6)) (a.at + 8 + le 2 p (a.at + 4)) p (omega arith))
-
-pub overflow_add-from : goal.overflow_add-from
-overflow_add-from c = omega (arith, whole (goal.at.overflow_add-from c).After-cut c.if-cut.false)
-
-pub overflow_add-at : goal.overflow_add-at
-overflow_add-at c = omega (arith, whole (goal.at.overflow_add-at c).After-cut c.if-cut.false)
-
-pub two-requires : goal.two-requires
-two-requires c = omega (arith, whole (goal.at.two-requires c).After-cut c.if-cut.false)
-
-pub overflow_add-from-2 : goal.overflow_add-from-2
-overflow_add-from-2 c = omega (arith, whole (goal.at.overflow_add-from-2 c).After-cut c.if-cut.false)
-
-pub returns-then-pack-from : goal.returns-then-pack-from
-unfolding instruction_at
-returns-then-pack-from c =
-    let a = c.args in
-    let p = a.pack.now in
-    sym (past (le 2 p (a.at + 6)) (a.at + 8 + le 2 p (a.at + 4)) p (omega (arith, c.two.ensures)))
 
 pub returns : goal.returns
 unfolding instruction_at
-returns c = c.part.ensures ∙ rw (c.two-2.ensures, c.two.ensures)
+returns c =
+    let p = c.args.pack.now in
+    let at = c.args.at in
+    let accounts : ℕ = le 2 p (at + 4) in
+    rw (c.first.ensures, c.rest.ensures, c.u16_at.ensures, c.u16_at-2.ensures, c.rest-item.ensures, le_from p at 2 4, le_from p at 2 6, drop-drop (8 + accounts) at p, ← add_assoc at 8 accounts)

@@ -1,44 +1,23 @@
--- The loop has seen that no start before k falls.
+-- Each pair of starts is tested.
 -- Assumes nothing.
+use Rattle.std.proofs.Common.{ℕ, ◌+◌, Bool, rules, tests, refl}
+use Rattle.std.proofs.lemmas.Iterator.{YieldsList-from_range}
+use Rattle.std.proofs.lemmas.Iterator.Search.{all_from_yields_List}
 use Rattle.pack.specs.Sections.{start_of, ordered}
-use Rattle.pack.proofs.Tests.{all-below, not-below}
-use Prim.Native.Nat.{◌+◌}
-use mathlib.Core.Path.{◌≡◌, sym, ◌∙◌}
-use mathlib.Core.Bool.{true, false, and-false}
-use borrow.Author.Tests.{eq-eqb, ne_eqb, lt-leb, le-leb}
-use borrow.Author.Count.{below_none, below_more}
-use native.Mathlib.Omega.{arith}
-use lib.Dec.{leb, eqb}
+use Rattle.pack.proofs.Tests.{in-range}
+use mathlib.Core.Path.{sym, ◌∙◌}
+use borrow.Author.Tests.{eq-eqb, ne_eqb}
+use lib.Dec.{leb}
 use Rattle.pack.proofs.trailer.ordered.Goals as goal
 
-pub returns-then-start-ne0 : goal.returns-then-start-ne0
+pub returns-then-start-eq0 : goal.returns-then-start-eq0
 unfolding ordered
-returns-then-start-ne0 c = let p = c.args.pack.now in rw (ne_eqb (start_of p 0) 0 (λ e. c.if-start-ne0.true (c.start.ensures ∙ e)))
+returns-then-start-eq0 c =
+    let p = c.args.pack.now in
+    let f : ℕ → Bool = λ k. leb (start_of p k) (start_of p (k + 1)) in
+    let all = all_from_yields_List f _ _ c.all.result c.all.ensures.ran (YieldsList-from_range 0 5 5 refl refl) (λ x b q k. search (rules, tests)) in
+    rw (eq-eqb (start_of p 0) 0 (sym c.start.ensures ∙ c.if-start-eq0.true)) (all ∙ in-range f 5)
 
-pub loop-k-init : goal.loop-k-init
-loop-k-init c = below_none _
-
-pub returns-then-start : goal.returns-then-start
+pub returns-else-start-eq0 : goal.returns-else-start-eq0
 unfolding ordered
-returns-then-start c =
-    let p = c.args.pack.now in
-    let l = c.loop-k in
-    let e : leb (start_of p l.k) (start_of p (l.k + 1)) ≡ false =
-    lt-leb (start_of p l.k) (start_of p (l.k + 1)) (omega (arith, c.start-in-loop-k.ensures, c.start-in-loop-k-2.ensures)) in
-    rw (not-below (λ k. leb (start_of p k) (start_of p (k + 1))) 5 l.k (omega arith) e) (sym (and-false (eqb (start_of p 0) 0)))
-
-pub loop-k-preserved : goal.loop-k-preserved
-loop-k-preserved c =
-    let p = c.args.pack.now in
-    let l = c.loop-k in
-    let e : leb (start_of p l.k) (start_of p (l.k + 1)) ≡ true =
-    le-leb (start_of p l.k) (start_of p (l.k + 1)) (omega (arith, c.start-in-loop-k.ensures, c.start-in-loop-k-2.ensures)) in
-    below_more _ _ l.invariant e
-
-pub returns : goal.returns
-unfolding ordered
-returns c =
-    let p = c.args.pack.now in
-    let l = c.loop-k in
-    rw
-    (eq-eqb (start_of p 0) 0 (sym c.start.ensures ∙ c.if-start-ne0.false), all-below (λ k. leb (start_of p k) (start_of p (k + 1))) 5 (λ k h. l.invariant k (omega arith)))
+returns-else-start-eq0 c = let p = c.args.pack.now in rw (c.start.ensures, ne_eqb (start_of p 0) 0 (λ e. c.if-start-eq0.false (c.start.ensures ∙ e)))

@@ -4,9 +4,9 @@ use Rattle.pack.proofs.Walk.{groups-ended, groups-cut, groups-more, group-cut, g
 use Rattle.wire.specs.Le.{le}
 use Rattle.pack.specs.Items.{group_good, group_end, count_at}
 use Rattle.pack.specs.View.{groups_in}
-use Prim.Native.Nat.{ℕ, suc, ◌+◌, ◌-◌, ◌*◌, ◌≤◌}
+use Prim.Native.Nat.{ℕ, ◌+◌, ◌-◌, ◌*◌, ◌≤◌}
 use native.Mathlib.Nat.{zero-add}
-use mathlib.Core.Path.{◌≡◌, refl, sym, ◌∙◌}
+use mathlib.Core.Path.{◌≡◌, sym, ◌∙◌}
 use borrow.Author.Tests.{lt-leb}
 use mathlib.Core.Bool.{Bool, true, cond}
 use mathlib.Core.List.{List}
@@ -45,9 +45,6 @@ counted c = rw c.u16_at-count.ensures at c.kept-n.ensures
 few : (c : After-kept-n) → c.kept-n.result ≤ count_at (section c) (here c)
 few c = kept-few (named c) (count_at (section c) (here c)) c.kept-n.result (counted c)
 
-pub loop-at-init : goal.loop-at-init
-loop-at-init c = (omega arith, omega arith, (suc (length c.args.s.now), omega arith, refl))
-
 pub returns-then-s-at-lt6 : goal.returns-then-s-at-lt6
 unfolding groups_in group_good
 returns-then-s-at-lt6 c =
@@ -62,9 +59,6 @@ returns-in_err-end c =
     let a = c.args in
     let bad = group-cut a.s.now l.at (omega arith) (rw (← c.u16_at-count.ensures) (sym c.in_err-end.was ∙ c.inners.ensures)) in
     rw c.from_residual.ensures (sym (groups-cut a.s.now a.o l.invariant.2.0 (l.invariant.2.0 - 1) l.at l.n (omega (arith, l.invariant.2.1)) (omega arith) bad) ∙ l.invariant.2.2 ∙ rw zero-add)
-
-pub overflow_add-n : goal.overflow_add-n
-overflow_add-n c = omega (arith, (passed (goal.at.overflow_add-n c).After-kept-n).2, (passed (goal.at.overflow_add-n c).After-kept-n).3, few (goal.at.overflow_add-n c).After-kept-n)
 
 pub loop-at-smaller : goal.loop-at-smaller
 loop-at-smaller c = omega (arith, (passed (goal.at.loop-at-smaller c).After-kept-n).2, (passed (goal.at.loop-at-smaller c).After-kept-n).3, few (goal.at.loop-at-smaller c).After-kept-n)

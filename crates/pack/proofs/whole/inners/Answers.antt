@@ -2,13 +2,9 @@
 -- Assumes nothing.
 use Rattle.pack.proofs.Walk.{item-grows, inners-ended, inners-cut, inners-bad, inners-more}
 use Prim.Native.Nat.{◌+◌}
-use native.Mathlib.Nat.{sub-zero}
 use mathlib.Core.Path.{sym, ◌∙◌}
 use native.Mathlib.Omega.{arith}
 use Rattle.pack.proofs.whole.inners.Goals as goal
-
-pub loop-init : goal.loop-init
-loop-init c = (omega arith, simp sub-zero)
 
 pub returns-then-s-to-lt13 : goal.returns-then-s-to-lt13
 returns-then-s-to-lt13 c =

@@ -2,14 +2,11 @@
 -- Assumes nothing.
 use Rattle.pack.proofs.Walk.{item-grows, outers-ended, outers-cut, outers-more}
 use Rattle.pack.specs.View.{outer_in}
-use native.Mathlib.Nat.{sub-zero, zero-add}
+use native.Mathlib.Nat.{zero-add}
 use mathlib.Core.Path.{sym, ◌∙◌}
 use native.Mathlib.Omega.{arith}
 use lib.ListN.{length-map}
 use Rattle.pack.proofs.whole.outers.Goals as goal
-
-pub loop-at-init : goal.loop-at-init
-loop-at-init c = (omega arith, omega arith, simp sub-zero)
 
 pub returns-then-s-at-lt8 : goal.returns-then-s-at-lt8
 unfolding outer_in
@@ -24,9 +21,6 @@ returns-then-s-end c =
     let l = c.loop-at in
     let s = c.args.s.now in
     sym (outers-cut s l.at l.n (omega arith) (omega arith) (omega (arith, c.item_end-end.ensures))) ∙ l.invariant.2 ∙ rw (length-map, zero-add)
-
-pub overflow_add-n : goal.overflow_add-n
-overflow_add-n c = let l = c.loop-at in omega (arith, c.item_end-end.ensures, item-grows c.args.s.now l.at)
 
 pub loop-at-smaller : goal.loop-at-smaller
 loop-at-smaller c = let l = c.loop-at in omega (arith, c.item_end-end.ensures, item-grows c.args.s.now l.at)
