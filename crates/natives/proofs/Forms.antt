@@ -1,4 +1,4 @@
--- When data has the form of an action: bytes and the number that they make tell the same, and each form has one length.
+-- When data has the form of an action, byte by byte; and each form has one length.
 -- Assumes nothing.
 use mathlib.Core.Path.{◌≡◌, refl, sym}
 use mathlib.Core.Bool.{Bool, true, false, cond, ◌&&◌, and-true, and-false, false≢true}
@@ -42,11 +42,12 @@ head (x ∷ y ∷ z ∷ w ∷ r) = go (eqb (length (x ∷ y ∷ z ∷ w ∷ r)) 
     go true true true true e = simp and-true
     go false a b c e = simp and-false
 
--- the three tests, byte by byte
+-- the program's test comes last
 later : (a b c : Bool) → (a && b && c) ≡ (b && c && a)
 later true b c = simp and-true
 later false b c = simp and-false
 
+-- the three tests: length, bytes, accounts, program
 pub fund-bytes : (id : Id) (n : ℕ) (d : List ℕ) → funds id n d
     ≡ (eqb (length d) 12 && eqb (get_or d 0 0) 2 && eqb (get_or d 1 0) 0 && eqb (get_or d 2 0) 0 && eqb (get_or d 3 0) 0 && leb 2 n && is_system id)
 unfolding funds

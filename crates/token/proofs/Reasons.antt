@@ -224,5 +224,6 @@ module _ (κ : ℕ → Key) (id : Id) (a d : List ℕ) where
   reason-tells = rw (← moved-reason κ id a d, ← moved_value κ id a d) (case-tells κ (moved_of κ id a d))
 
   -- a result that is the definition's has the value that the Rust gives, and the reason of the layouts
-  pub tells : {r : Result Transfer Reason} → r ≡ moved_of κ id a d → (r ≡ moved_of κ id a d) × ((transfer_value κ r ≡ transfer κ id a d) × (reason_of r ≡ reason κ id a d))
-  tells e = (e, (ap (transfer_value κ) e ∙ moved_value κ id a d, ap reason_of e ∙ moved-reason κ id a d))
+  pub tells : {r : Result Transfer Reason} → r ≡ moved_of κ id a d
+      → record { value : r ≡ moved_of κ id a d; transfer : transfer_value κ r ≡ transfer κ id a d; reason : reason_of r ≡ reason κ id a d }
+  tells e = record { value = e; transfer = ap (transfer_value κ) e ∙ moved_value κ id a d; reason = ap reason_of e ∙ moved-reason κ id a d }

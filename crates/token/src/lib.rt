@@ -115,7 +115,7 @@ fn why_none(id: Id, accounts: usize, data: &[u8]) -> Reason
     }
 }
 
-// From account 0 to the account at place `to`.
+// A transfer from account 0 to the one at place `to`, if both have a key.
 #[tactic(auto, unfolding(crate::specs::Moved::sent_to))]
 fn sent_to(
     keys: &[u8],
@@ -136,7 +136,7 @@ fn sent_to(
     })
 }
 
-// To account 2, and the mint between them.
+// A transfer to account 2, the mint between them.
 #[tactic(auto, unfolding(crate::specs::Moved::sent_to, crate::specs::Moved::sent_checked))]
 fn sent_checked(
     keys: &[u8],
