@@ -4,7 +4,7 @@ ghost use Rattle.swaps.specs.Draft.{in_order as in_order_of, pair_of};
 
 use crate::Pair;
 
-// A form of an instruction: whether it buys, and whether the amount is the input's.
+// A form of an instruction: whether it buys, and whether it is exact-in.
 #[derive(Clone, Copy)]
 pub(crate) struct Form {
     pub buy: bool,
@@ -12,7 +12,7 @@ pub(crate) struct Form {
 }
 
 // One and the other, or exchanged.
-pub(crate) fn in_order(test: bool, x: u8, y: u8) -> (u8, u8)
+pub(crate) fn in_order<T>(test: bool, x: T, y: T) -> (T, T)
     ensures { result ≡ in_order_of test x y }
 {
     if test { (x, y) } else { (y, x) }
