@@ -11,14 +11,14 @@ pub(crate) struct Form {
     pub exact: bool,
 }
 
-// One and the other, or exchanged.
+// The two as they stand if the test holds, else exchanged.
 pub(crate) fn in_order<T>(test: bool, x: T, y: T) -> (T, T)
     ensures { result ≡ in_order_of test x y }
 {
     if test { (x, y) } else { (y, x) }
 }
 
-// The pair of one and the other, or of the same exchanged.
+// The same as a pair of accounts.
 pub(crate) fn pair_of(test: bool, x: u8, y: u8) -> Pair
     ensures { result ≡ pair_of test x y }
 {

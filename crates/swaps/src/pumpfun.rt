@@ -86,22 +86,17 @@ pub fn leg(i: &Instruction) -> Option<Swap>
         return None;
     }
     let (amount, threshold) = i.numbers(8)?;
-    let Places {
-        pool,
-        user,
-        base,
-        quote,
-    } = places_of(v2);
+    let places = places_of(v2);
     let money = if ids::is_wrapped_sol(i.account(2)) {
-        user
+        places.user
     } else {
-        quote
+        places.quote
     };
-    let (input, output) = in_order(buy, money, base);
+    let (input, output) = in_order(buy, money, places.base);
     Some(Swap {
         protocol: Protocol::PumpFun,
-        pool,
-        trader: user,
+        pool: places.pool,
+        trader: places.user,
         input,
         output,
         exact,
