@@ -16,7 +16,7 @@ abbrev pub clmm_form : ℕ → List ℕ → Option Bool
 clmm_form n d = when (clmm_takes n d) (Some (is d SWAP_V2))
 
 -- its leg; only `swap_v2` has an `explicit_pair`
-unfoldable pub clmm_leg : Bool → Bool → ℕ → ℕ → Swap
+abbrev pub clmm_leg : Bool → Bool → ℕ → ℕ → Swap
 clmm_leg v2 exact amount threshold =
     let s = bare_swap Clmm 2 0 3 4 exact amount threshold in
     cond v2 (pairing s 11 12) s

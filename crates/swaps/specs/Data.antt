@@ -18,7 +18,7 @@ unfoldable pub is : List ℕ → ℕ → Bool
 is d x = is_number (discriminator d) x
 
 -- `read_option_bool_idl(d, at)` is Some: the byte is there, and is 0 or 1
-unfoldable pub is_flag : List ℕ → ℕ → Bool
+abbrev pub is_flag : List ℕ → ℕ → Bool
 is_flag d at = ltb at (length d) && ltb (get_or d at 0) 2
 
 -- the bool that it then is

@@ -10,7 +10,7 @@ use Rattle.swaps.specs.Data.{is, when, both}
 use Rattle.swaps.specs.Draft.{stated}
 
 -- `enum_size`, the bytes of a slice's tag: one for 0, 1, 2 and 4, two for 3; another tag is none
-unfoldable pub tag_size : ℕ → Option ℕ
+abbrev pub tag_size : ℕ → Option ℕ
 tag_size tag = cond (ltb tag 3 || eqb tag 4) (Some 1) (cond (eqb tag 3) (Some 2) None)
 
 -- a slice whose tag at `at` has so many bytes: where the next one starts, and `length`, the accounts that it claims; the length byte after the tag is there

@@ -40,7 +40,7 @@ abbrev pub in_mode : Option Mode → Swap → Swap
 in_mode m s = record s { mode = m }
 
 -- (x, y) if the test holds, else (y, x)
-abbrev pub in_order : Bool → ℕ → ℕ → ℕ × ℕ
+abbrev pub in_order : {A : Type 0} → Bool → A → A → A × A
 in_order test x y = (cond test x y, cond test y x)
 
 -- the same as a pair of accounts

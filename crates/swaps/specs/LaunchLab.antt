@@ -13,7 +13,7 @@ use Rattle.swaps.specs.Data.{is, when, both}
 use Rattle.swaps.specs.Draft.{bare_swap, pair_by, in_mode}
 
 -- `stonkfun_mode_from_platform_config`: the lent standard config, the reward config, any other key
-unfoldable pub mode_of : List ℕ → Key → Option Mode
+abbrev pub mode_of : List ℕ → Key → Option Mode
 mode_of names config =
     cond (same config (take 32 (drop 24 names))) (Some Standard) (cond (same config (take 32 (drop 56 names))) (Some Reward) None)
 
@@ -26,7 +26,7 @@ launch_lab_form d =
     (when (is d SELL_EXACT_OUT) (Some (record { buy = false; exact = false })))))
 
 -- its leg; the `explicit_pair` goes by `input == a(6)`, two keys, and not by the direction
-unfoldable pub launch_lab_leg : List ℕ → (ℕ → Key) → List ℕ → Bool → Bool → Option Swap
+abbrev pub launch_lab_leg : List ℕ → (ℕ → Key) → List ℕ → Bool → Bool → Option Swap
 launch_lab_leg names a d buy exact =
     let input : ℕ = cond buy 6 5 in
     let output : ℕ = cond buy 5 6 in

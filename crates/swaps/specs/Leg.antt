@@ -6,7 +6,7 @@ use Rattle.std.proofs.Math.Option.{Option, none, some}
 use Rattle.wire.specs.Same.{same}
 use Rattle.ids.specs.Keys.{Key, is_zero}
 use Rattle.swaps.specs.declared.Protocol.{Protocol}
-use Rattle.swaps.specs.declared.Protocol.TheVariants.{PumpSwap, LaunchLab, Cpmm, AmmV4, Clmm, Orca, Dlmm, PumpFun}
+use Rattle.swaps.specs.declared.Protocol.TheVariants.{Cpmm}
 use Rattle.swaps.specs.declared.Mode.{Mode}
 use Rattle.swaps.specs.declared.Pair.{Pair}
 use Rattle.swaps.specs.declared.Swap.{Swap}
@@ -48,14 +48,8 @@ contains (p ∷ ps) k = same p k || contains ps k
 
 -- only a CPMM pool is graduated
 abbrev pub is_cpmm : Protocol → Bool
-is_cpmm PumpSwap = false
-is_cpmm LaunchLab = false
 is_cpmm Cpmm = true
-is_cpmm AmmV4 = false
-is_cpmm Clmm = false
-is_cpmm Orca = false
-is_cpmm Dlmm = false
-is_cpmm PumpFun = false
+is_cpmm p = false
 
 -- the `RouteSwapLeg` at the end of `swap`: κ gives the key of each account; then the mints known of the input and of the output, and the graduated pools
 abbrev pub leg_with : (ℕ → Key) → Option Key → Option Key → List Key → Swap → RouteLeg

@@ -10,11 +10,11 @@ use Rattle.swaps.specs.Data.{is, is_flag, flag, when, both}
 use Rattle.swaps.specs.Draft.{bare_swap, pair_by}
 
 -- the leg of `swap_disc`
-unfoldable pub orca_v1 : Bool → Bool → ℕ → ℕ → Swap
+abbrev pub orca_v1 : Bool → Bool → ℕ → ℕ → Swap
 orca_v1 direction exact amount threshold = bare_swap Orca 2 1 (cond direction 3 5) (cond direction 5 3) exact amount threshold
 
 -- the leg of `swap_v2`; the `explicit_pair` goes by `input == a(7)`, two keys, and not by the direction
-unfoldable pub orca_v2 : (ℕ → Key) → Bool → Bool → ℕ → ℕ → Swap
+abbrev pub orca_v2 : (ℕ → Key) → Bool → Bool → ℕ → ℕ → Swap
 orca_v2 a direction exact amount threshold =
     let input : ℕ = cond direction 7 9 in
     pair_by (same (a input) (a 7)) 5 6 (bare_swap Orca 4 3 input (cond direction 9 7) exact amount threshold)

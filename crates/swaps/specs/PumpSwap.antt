@@ -23,11 +23,11 @@ pump_swap_form names d =
     (when (is d SELL || is d SELL_V2) (Some (record { buy = false; exact = true }))))
 
 -- `read_option_bool_idl(ix.data, 24)?` where it is asked: a buy's byte 24, where it is there, is 0 or 1; a sell's is not looked at
-unfoldable pub track_volume : List ℕ → Bool → Bool
+abbrev pub track_volume : List ℕ → Bool → Bool
 track_volume d buy = cond (buy && ltb 24 (length d)) (is_flag d 24) true
 
 -- its leg; the `explicit_pair` goes by `input == a(6)`, two keys, and not by the direction
-unfoldable pub pump_swap_leg : (ℕ → Key) → List ℕ → Bool → Bool → Option Swap
+abbrev pub pump_swap_leg : (ℕ → Key) → List ℕ → Bool → Bool → Option Swap
 pump_swap_leg a d buy exact =
     let input : ℕ = cond buy 6 5 in
     when (track_volume d buy)

@@ -51,5 +51,5 @@ leg_row invocation program l =
     ++ end_bytes l.exact l.amount l.threshold l.mode l.graduated
 
 -- the bytes that a mint's field is made of: the mint handed in, else the pair's key, else the stand-in
-unfoldable pub side : List ℕ → Answer Key → Key
+abbrev pub side : List ℕ → Answer Key → Key
 side m explicit = cond (is_mint m) m (unwrap_or explicit zero_key)

@@ -20,7 +20,7 @@ fn is_v2(i: &Instruction) -> Option<bool>
 }
 
 // `swap_v2` alone names its mints.
-#[tactic(auto, unfolding(crate::specs::Clmm::clmm_leg, crate::specs::Clmm::clmm))]
+#[tactic(auto, unfolding(crate::specs::Clmm::clmm))]
 pub fn leg(i: &Instruction) -> Option<Swap>
     ensures { result ≡ clmm (length i.now.accounts.now) i.now.bytes.now }
 {

@@ -8,7 +8,6 @@ use crate::instruction::Instruction;
 use crate::{Protocol, Swap};
 
 // The bytes of a slice's tag.
-#[tactic(auto, unfolding(crate::specs::Dlmm::tag_size))]
 fn tag_size(tag: u8) -> Option<usize>
     ensures { result ≡ tag_size tag }
 {
@@ -27,19 +26,15 @@ struct Slice {
 }
 
 // The slice at `at`: a known tag, and the length byte after it.
+#[tactic(auto, using(std::proofs::lemmas::Option::gets))]
 fn slice_at(data: &[u8], at: usize) -> Option<Slice>
     ensures { result ≡ slice_at «data».now at }
 {
-    if data.len() <= at {
-        return None;
-    }
-    let size = tag_size(data[at])?;
-    if data.len() - at <= size {
-        return None;
-    }
+    let size = tag_size(*data.get(at)?)?;
+    let length = *data.get(at + size)?;
     Some(Slice {
         end: at + size + 1,
-        claims: usize::from(data[at + size]),
+        claims: usize::from(length),
     })
 }
 

@@ -4,6 +4,8 @@ ghost use Rattle.wire.specs.Same.{same};
 ghost use Rattle.ids.specs.Keys.{key_of, account as account_of};
 ghost use Rattle.swaps.specs.Data.{discriminator as discriminator_of, flag_at, numbers_at, stated_at};
 
+use crate::draft::in_order;
+
 // The key section, the index byte of each account, and the data.
 #[derive(Clone, Copy)]
 pub(crate) struct Instruction<'a> {
@@ -25,14 +27,11 @@ impl<'a> Instruction<'a> {
     }
 
     // The byte at `at` as a bool: 0 or 1.
-    #[tactic(auto, unfolding(crate::specs::Data::is_flag))]
+    #[tactic(auto, using(std::proofs::lemmas::Option::gets))]
     pub fn flag(&self, at: usize) -> Option<bool>
         ensures { result ≡ flag_at self.now.bytes.now at }
     {
-        if self.bytes.len() <= at {
-            return None;
-        }
-        match self.bytes[at] {
+        match *self.bytes.get(at)? {
             0 => Some(false),
             1 => Some(true),
             _ => None,
@@ -58,23 +57,17 @@ impl<'a> Instruction<'a> {
         ensures { result ≡ stated_at self.now.bytes.now at exact }
     {
         let (first, second) = self.numbers(at)?;
-        if exact {
-            Some((first, second))
-        } else {
-            Some((second, first))
-        }
+        Some(in_order(exact, first, second))
     }
 
     // The key of an account, zero where there is none.
-    #[tactic(auto, unfolding(ids::specs::Keys::zero_key))]
+    #[tactic(auto, using(std::proofs::lemmas::Option::gets), unfolding(ids::specs::Keys::zero_key))]
     pub fn account(&self, place: u8) -> &'a [u8]
         ensures { result.now ≡ account_of (key_of self.now.keys.now) self.now.accounts.now place }
     {
-        let place = usize::from(place);
-        if place < self.accounts.len() {
-            ids::key(self.keys, &[0; 32], usize::from(self.accounts[place]))
-        } else {
-            &[0; 32]
+        match self.accounts.get(usize::from(place)) {
+            Some(index) => ids::key(self.keys, &[0; 32], usize::from(*index)),
+            None => &[0; 32],
         }
     }
 

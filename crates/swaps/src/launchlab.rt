@@ -9,7 +9,7 @@ use crate::instruction::Instruction;
 use crate::{Mode, Protocol, Swap};
 
 #[tactic(auto, unfolding(crate::specs::Data::is))]
-fn form(i: &Instruction) -> Option<Form>
+fn form_of(i: &Instruction) -> Option<Form>
     ensures { result ≡ launch_lab_form i.now.bytes.now }
 {
     let (buy, exact) = match i.discriminator()? {
@@ -31,7 +31,6 @@ fn config(names: &[u8], at: usize) -> &[u8]
 }
 
 // The mode that a platform config stands for.
-#[tactic(auto, unfolding(crate::specs::LaunchLab::mode_of))]
 fn mode_of(names: &[u8], key: &[u8]) -> Option<Mode>
     ensures { result ≡ mode_of names.now key.now }
 {
@@ -45,7 +44,7 @@ fn mode_of(names: &[u8], key: &[u8]) -> Option<Mode>
 }
 
 // The pair goes by the input's key, so equal token accounts flip it.
-#[tactic(auto, unfolding(crate::specs::LaunchLab::launch_lab_leg, crate::specs::LaunchLab::launch_lab))]
+#[tactic(auto, unfolding(crate::specs::LaunchLab::launch_lab))]
 pub fn leg(names: &[u8], i: &Instruction) -> Option<Swap>
     ensures { let a = account (key_of i.now.keys.now) i.now.accounts.now in
         result ≡ launch_lab names.now a (length i.now.accounts.now) i.now.bytes.now }
@@ -53,7 +52,7 @@ pub fn leg(names: &[u8], i: &Instruction) -> Option<Swap>
     if i.accounts.len() < 15 {
         return None;
     }
-    let Form { buy, exact } = form(i)?;
+    let Form { buy, exact } = form_of(i)?;
     let (amount, threshold) = i.numbers(8)?;
     let (input, output) = in_order(buy, 6, 5);
     Some(Swap {

@@ -22,7 +22,7 @@ fn is_v2(i: &Instruction) -> Option<bool>
 }
 
 // The pair of `swap_v2` goes by the input's key, so equal token accounts flip it.
-#[tactic(auto, unfolding(crate::specs::Orca::orca_v1, crate::specs::Orca::orca_v2, crate::specs::Orca::orca))]
+#[tactic(auto, unfolding(crate::specs::Orca::orca))]
 pub fn leg(i: &Instruction) -> Option<Swap>
     ensures { let a = account (key_of i.now.keys.now) i.now.accounts.now in
         result ≡ orca a (length i.now.accounts.now) i.now.bytes.now }

@@ -6,13 +6,20 @@ ghost use Rattle.swaps.specs.PumpFun.{pump_fun, pump_fun_form, pump_fun_floor, p
 use crate::discriminators::{
     BUY_EXACT_QUOTE_IN_V2, BUY_EXACT_QUOTE_IN_V3, BUY_V2, BUY_V3, SELL_V2, SELL_V3,
 };
-use crate::draft::{Form, in_order, pair_of};
+use crate::draft::{in_order, pair_of};
 use crate::instruction::Instruction;
 use crate::{Protocol, Swap};
 
-// The form, and whether it is one of version 2.
-#[tactic(auto, unfolding(crate::specs::Data::is, crate::specs::PumpFun::is_v2, crate::specs::PumpFun::is_v3, crate::specs::PumpFun::is_buy, crate::specs::PumpFun::is_exact))]
-fn form(i: &Instruction) -> Option<(bool, Form)>
+// A form of an instruction: whether it is of version 2, whether it buys, and whether it is exact-in.
+#[derive(Clone, Copy)]
+struct Form {
+    v2: bool,
+    buy: bool,
+    exact: bool,
+}
+
+#[tactic(auto, unfolding(crate::specs::Data::is))]
+fn form_of(i: &Instruction) -> Option<Form>
     ensures { result ≡ pump_fun_form i.now.bytes.now }
 {
     let (v2, buy, exact) = match i.discriminator()? {
@@ -24,7 +31,7 @@ fn form(i: &Instruction) -> Option<(bool, Form)>
         SELL_V3 => (false, false, true),
         _ => return None,
     };
-    Some((v2, Form { buy, exact }))
+    Some(Form { v2, buy, exact })
 }
 
 // How many accounts a form needs.
@@ -48,7 +55,6 @@ struct Places {
 }
 
 // They stand elsewhere in version 2 than in version 3.
-#[tactic(auto, unfolding(crate::specs::PumpFun::pump_fun_places))]
 fn places_of(v2: bool) -> Places
     ensures { result ≡ pump_fun_places v2 }
 {
@@ -70,32 +76,27 @@ fn places_of(v2: bool) -> Places
 }
 
 // The money side is the user where the quote mint is wrapped SOL.
-#[tactic(auto, unfolding(crate::specs::PumpFun::pump_fun_leg, crate::specs::PumpFun::pump_fun_places, crate::specs::PumpFun::pump_fun))]
+#[tactic(auto, unfolding(crate::specs::PumpFun::pump_fun))]
 pub fn leg(i: &Instruction) -> Option<Swap>
     ensures { let a = account (key_of i.now.keys.now) i.now.accounts.now in
         result ≡ pump_fun a (length i.now.accounts.now) i.now.bytes.now }
 {
-    let (v2, Form { buy, exact }) = form(i)?;
+    let Form { v2, buy, exact } = form_of(i)?;
     if i.accounts.len() < floor(v2, buy) {
         return None;
     }
     let (amount, threshold) = i.numbers(8)?;
-    let Places {
-        pool,
-        user,
-        base,
-        quote,
-    } = places_of(v2);
+    let places = places_of(v2);
     let money = if ids::is_wrapped_sol(i.account(2)) {
-        user
+        places.user
     } else {
-        quote
+        places.quote
     };
-    let (input, output) = in_order(buy, money, base);
+    let (input, output) = in_order(buy, money, places.base);
     Some(Swap {
         protocol: Protocol::PumpFun,
-        pool,
-        trader: user,
+        pool: places.pool,
+        trader: places.user,
         input,
         output,
         exact,

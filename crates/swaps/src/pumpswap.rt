@@ -9,7 +9,7 @@ use crate::instruction::Instruction;
 use crate::{Protocol, Swap};
 
 #[tactic(auto, unfolding(crate::specs::Data::is))]
-fn form(names: &[u8], i: &Instruction) -> Option<Form>
+fn form_of(names: &[u8], i: &Instruction) -> Option<Form>
     ensures { result ≡ pump_swap_form names.now i.now.bytes.now }
 {
     let (buy, exact) = match i.discriminator()? {
@@ -23,7 +23,6 @@ fn form(names: &[u8], i: &Instruction) -> Option<Form>
 }
 
 // A buy's byte 24 is a flag where it is there; a sell's is not looked at.
-#[tactic(auto, unfolding(crate::specs::PumpSwap::track_volume))]
 fn track_volume(i: &Instruction, buy: bool) -> bool
     ensures { result ≡ track_volume i.now.bytes.now buy }
 {
@@ -31,7 +30,7 @@ fn track_volume(i: &Instruction, buy: bool) -> bool
 }
 
 // Exactly 17 accounts, or 21 up. The pair goes by the input's key, so equal token accounts flip it.
-#[tactic(auto, unfolding(crate::specs::PumpSwap::pump_swap_leg, crate::specs::PumpSwap::pump_swap))]
+#[tactic(auto, unfolding(crate::specs::PumpSwap::pump_swap))]
 pub fn leg(names: &[u8], i: &Instruction) -> Option<Swap>
     ensures { let a = account (key_of i.now.keys.now) i.now.accounts.now in
         result ≡ pump_swap names.now a (length i.now.accounts.now) i.now.bytes.now }
@@ -40,7 +39,7 @@ pub fn leg(names: &[u8], i: &Instruction) -> Option<Swap>
     if n < 21 && n != 17 {
         return None;
     }
-    let Form { buy, exact } = form(names, i)?;
+    let Form { buy, exact } = form_of(names, i)?;
     if !track_volume(i, buy) {
         return None;
     }

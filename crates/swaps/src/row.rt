@@ -58,7 +58,7 @@ fn put_keys(row: &mut [u8], keys: &[u8], program: usize, leg: Swap)
 }
 
 // The mint of one side: the known one, else the explicit pair's, else the stand-in.
-#[tactic(auto, unfolding(crate::specs::Row::side, ids::specs::Keys::zero_key))]
+#[tactic(auto, unfolding(ids::specs::Keys::zero_key))]
 fn side<'a>(known: &'a [u8], keys: &'a [u8], explicit: Option<u8>) -> &'a [u8]
     ensures { result.now ≡ side_of known.now (option_map (key_of keys.now) explicit) }
 {
