@@ -27,8 +27,8 @@ fn label_apart(label: &mut [u32])
     requires { length label.old ≤ 65536 }
     ensures { label.new ≡ own_labels (length label.old) }
 {
-    for r in 0..label.len() {
-        label[r] = r as u32;
+    for (r, l) in label.iter_mut().enumerate() {
+        *l = r as u32;
     }
 }
 
@@ -62,9 +62,9 @@ fn join(label: &mut [u32], a: usize, b: usize)
     let y = label[b];
     if x < y {
         relabel(label, y, x);
-        return;
+    } else {
+        relabel(label, x, y);
     }
-    relabel(label, x, y);
 }
 
 // Puts a row in doubt if it is filled in, and all that are joined to it.
@@ -88,15 +88,9 @@ fn meet(table: &[Row], label: &mut [u32], a: usize, b: usize)
     if differ(table, a, b) {
         suspect(table, label, a);
         suspect(table, label, b);
-        return;
+    } else if table[a].state.is_filled_in() && table[b].state.is_filled_in() {
+        join(label, a, b);
     }
-    if !table[a].state.is_filled_in() {
-        return;
-    }
-    if !table[b].state.is_filled_in() {
-        return;
-    }
-    join(label, a, b);
 }
 
 // Sets the labels by the transfers.

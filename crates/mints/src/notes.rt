@@ -35,22 +35,13 @@ pub(crate) fn note(table: &mut [Row], r: usize, mint: &[u8]) -> usize
     ensures { (table.new ≡ record_at table.old r mint.now) × (result ≡ new_at table.old r mint.now) }
 {
     match table[r].state {
-        State::Unknown => {
-            if is_zero(mint) {
-                return 0;
-            }
+        State::Unknown if !is_zero(mint) => {
             table[r].mint.copy_from_slice(mint);
             table[r].state = State::Recorded;
             1
         }
-        State::Recorded => {
-            // Most mints are the recorded one, and that one is not zero.
-            if wire::equal(mint, table[r].mint()) {
-                return 0;
-            }
-            if is_zero(mint) {
-                return 0;
-            }
+        // Most mints are the recorded one, and that one is not zero.
+        State::Recorded if !wire::equal(mint, table[r].mint()) && !is_zero(mint) => {
             table[r].state = State::Ambiguous;
             0
         }

@@ -31,28 +31,22 @@ fn hand(table: &mut [Row], a: usize, b: usize)
 }
 
 // One transfer: where one end has a mint and the other has none, hands it on. Answers how many accounts are filled in.
-#[tactic(auto, unfolding(crate::specs::Pass::step_at, crate::specs::Pass::filled_at))]
+#[tactic(auto, unfolding(crate::specs::Pass::step_at, crate::specs::Pass::filled_at, crate::specs::Cells::number_of))]
 fn step(table: &mut [Row], a: usize, b: usize) -> usize
     requires { (a < length table.old) × (b < length table.old) }
     ensures { (table.new ≡ step_at table.old a b) × (result ≡ filled_at table.old a b) }
 {
-    let x = table[a].state;
-    let y = table[b].state;
-    if x.is_unknown() {
-        if y.has_mint() {
+    match (table[a].state, table[b].state) {
+        (State::Unknown, y) if y.has_mint() => {
             hand(table, b, a);
-            return 1;
+            1
         }
-        return 0;
+        (x, State::Unknown) if x.has_mint() => {
+            hand(table, a, b);
+            1
+        }
+        _ => 0,
     }
-    if !y.is_unknown() {
-        return 0;
-    }
-    if x.has_mint() {
-        hand(table, a, b);
-        return 1;
-    }
-    0
 }
 
 // One pass over the transfers; answers how many accounts are filled in.

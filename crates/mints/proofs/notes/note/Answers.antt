@@ -7,9 +7,9 @@ use mathlib.Core.Path.{sym, ap, ◌∙◌}
 use native.Mathlib.Omega.{arith}
 use Rattle.mints.proofs.notes.note.Goals as goal
 
-pub returns-else-is_zero : goal.returns-else-is_zero
+pub returns-in-Unknown : goal.returns-in-Unknown
 unfolding number_of
-returns-else-is_zero c =
+returns-in-Unknown c =
     let a = c.args in
-    let q = note-first a.table.now a.r a.mint.now (sym c.is_zero.ensures ∙ c.if-is_zero.false) (ap number_of c.in-Unknown.is) in
+    let q = note-first a.table.now a.r a.mint.now (sym c.is_zero.ensures ∙ c.if-not-is_zero.true) (ap number_of c.in-Unknown.is) in
     (mint-then-state a.table.now a.r c.copy_from_slice.new.self Recorded (omega arith) ∙ rw c.copy_from_slice.ensures.after q.0, q.1)
