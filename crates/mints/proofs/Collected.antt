@@ -7,8 +7,8 @@ use mathlib.Core.List.{List, [], ◌∷◌, ◌++◌, map, append-nil}
 use Prim.Native.Nat.{ℕ, zero, suc, ◌+◌, ◌≤◌, ◌<◌}
 use native.Mathlib.Decide.{ℕ_discrete, dec_lt}
 use native.Mathlib.Omega.{arith}
-use lib.ListN.{length, get_or, set, take, replicate, length-map, length-set, length-take, get_or-map}
-use Rattle.std.proofs.lemmas.List.{get_or_past, get_or-replicate, length-replicate}
+use lib.ListN.{length, get_or, set, take, length-map, length-set, length-take, get_or-map}
+use Rattle.std.proofs.lemmas.List.{get_or_past}
 use lib.Seq.{get_or-set_same, get_or-set_other, get_or-take}
 use Rattle.std.specs.Prelude.{Option, Some, None}
 use Rattle.ids.specs.Keys.{Key, key_of}
@@ -64,10 +64,6 @@ pairs-more α ts c x h = let e = ends-same ts c x h in rw (pairs_set α ts c c x
 -- a store of a transfer between rows
 set_within : (n : ℕ) (ts : List Transfer) (c : ℕ) (x : Transfer) → c < length ts → (x.from < n) × (x.to < n) → EndsWithin n ts → EndsWithin n (set ts c x)
 set_within n ts c x h l b j = by_cases (ℕ_discrete j c) (λ e. let s = ends-same ts c x h in rw (e, s.0, s.1) l) (λ d. let s = ends-other ts c j x d in rw (s.0, s.1) (b j))
-
--- an array that is full of one thing
-pub full-of : {A : Type 0} (n j : ℕ) (x : A) → get_or (replicate n x) j x ≡ x
-full-of n j x = by_cases (dec_lt j n) (λ (h : j < n). get_or-replicate n j x x h) (λ (h : ¬ (j < n)). get_or_past (replicate n x) j x (omega (arith, length-replicate n x)))
 
 -- the transfers alone, without what an array has behind them
 pub taken : (α : ℕ → Key) (ts : List Transfer) (c i : ℕ) → i ≤ c → pairs_to α (take c ts) i ≡ pairs_to α ts i

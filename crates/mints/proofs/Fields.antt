@@ -1,112 +1,97 @@
--- What a store in one row of the table leaves of every row: the bytes of a field are read where nothing is stored, or are the stored ones.
+-- What a store in one row of the table leaves of every row: a field is as it was, or is the stored one.
 -- Assumes nothing.
-use mathlib.Core.Path.{◌≡◌, sym, ◌∙◌}
-use mathlib.Core.Logic.{◌≢◌, ◌⊎◌, inl, inr, ⊎_elim, by_cases}
-use mathlib.Core.List.{List, [], ◌∷◌}
-use Prim.Native.Nat.{ℕ, ◌+◌, ◌*◌, ◌≤◌, ◌<◌}
-use native.Mathlib.Decide.{dec_lt}
+use mathlib.Core.Path.{◌≡◌, refl, sym, ap, ◌∙◌, subst}
+use mathlib.Core.Logic.{◌≢◌, by_cases}
+use mathlib.Core.List.{List}
+use Prim.Native.Nat.{ℕ, ◌<◌}
+use native.Mathlib.Decide.{ℕ_discrete, dec_lt}
 use native.Mathlib.Omega.{arith}
-use lib.ListN.{length, take, drop, length-take, length-drop, length-set}
-use lib.Seq.{sets, length-sets, ext_get_or, get_or-take, get_or-drop, get_or-set_same, get_or-set_other}
-use Rattle.wire.proofs.Sets.{sets-before, sets-after, sets-in}
+use lib.ListN.{length, get_or, set, length-set}
+use lib.Seq.{set_out, set-set, get_or-set_same, get_or-set_other}
 use Rattle.ids.specs.Keys.{Key}
-use Rattle.mints.specs.Bytes.{mint_width}
-use Rattle.mints.specs.Cells.{account_at, mint_at, state_at, with_mint, with_state}
+use Rattle.mints.specs.declared.row.Row.{Row}
+use Rattle.mints.specs.declared.row.State.{State}
+use Rattle.mints.specs.Cells.{no_row, number_of, account_at, mint_at, state_at, with_account, with_mint, with_state}
 
--- w bytes from x on, and stores from y on that do not meet them
-pub window : (t vs : List ℕ) (x w y : ℕ) → (x + w ≤ y) ⊎ (y + length vs ≤ x) → take w (drop x (sets t y vs)) ≡ take w (drop x t)
-window t vs x w y h =
-    ext_get_or
-    0
-    (take w (drop x (sets t y vs)))
-    (take w (drop x t))
-    (simp (length-take, length-drop, length-sets))
-    (λ j l.
-    let k : j < w = small j l in
-    get_or-take w (drop x (sets t y vs)) j 0 k
-    ∙ get_or-drop x (sets t y vs) j 0
-    ∙ ⊎_elim (λ (a : x + w ≤ y). sets-before t y vs (x + j) (omega arith)) (λ (b : y + length vs ≤ x). sets-after t y vs (x + j) (omega arith)) h
-    ∙ sym (get_or-take w (drop x t) j 0 k ∙ get_or-drop x t j 0))
-  where
-    small : (j : ℕ) → j < length (take w (drop x (sets t y vs))) → j < w
-    small j l = omega (arith, length-take w (drop x (sets t y vs)))
+-- a row after a store: the stored one, or as it was
+after : (t : List Row) (r : ℕ) (x : Row) (q : ℕ) (P : Row → Type 0) → (q ≡ r → P x) → P (get_or t q no_row) → P (get_or (set t r x) q no_row)
+after t r x q P here there =
+    by_cases
+    (ℕ_discrete q r)
+    (λ e.
+    by_cases
+    (dec_lt r (length t))
+    (λ (h : r < length t). subst P (sym (rw e (get_or-set_same t r x no_row h))) (here e))
+    (λ (h : ¬ (r < length t)). subst P (sym (ap (λ (l : List Row). get_or l q no_row) (set_out t r x (omega arith)))) there))
+    (λ n. subst P (sym (get_or-set_other t r q x no_row n)) there)
 
--- the bytes that were stored
-pub stored : (t vs : List ℕ) (y w : ℕ) → length vs ≡ w → y + w ≤ length t → take w (drop y (sets t y vs)) ≡ vs
-stored t vs y w e h =
-    ext_get_or
-    0
-    (take w (drop y (sets t y vs)))
-    vs
-    (simp (length-take, length-drop, length-sets) (omega arith))
-    (λ j l.
-    let k : j < w = small j l in
-    get_or-take w (drop y (sets t y vs)) j 0 k ∙ get_or-drop y (sets t y vs) j 0 ∙ sets-in t y vs j (omega arith) (omega arith))
-  where
-    small : (j : ℕ) → j < length (take w (drop y (sets t y vs))) → j < w
-    small j l = omega (arith, length-take w (drop y (sets t y vs)))
-
--- one row lies before or after another
-sides : (q r : ℕ) → q ≢ r → (q < r) ⊎ (r < q)
-sides q r n = by_cases (dec_lt q r) (λ (h : q < r). inl h) (λ (h : ¬ (q < r)). inr (omega arith))
-
-module _ (t : List ℕ) (r s : ℕ) where
+module _ (t : List Row) (r : ℕ) (s : State) where
   pub account-state : (q : ℕ) → account_at (with_state t r s) q ≡ account_at t q
   unfolding with_state
-  account-state q = window t (s ∷ []) (q * mint_width) 32 (r * mint_width + 64) (by_cases (dec_lt r q) (λ (h : r < q). inr (omega arith)) (λ (h : ¬ (r < q)). inl (omega arith)))
+  account-state q = after t r _ q (λ (x : Row). x.account ≡ account_at t q) (λ e. ap (account_at t) (sym e)) refl
 
   pub mint-state : (q : ℕ) → mint_at (with_state t r s) q ≡ mint_at t q
   unfolding with_state
-  mint-state q = window t (s ∷ []) (q * mint_width + 32) 32 (r * mint_width + 64) (by_cases (dec_lt r q) (λ (h : r < q). inr (omega arith)) (λ (h : ¬ (r < q)). inl (omega arith)))
+  mint-state q = after t r _ q (λ (x : Row). x.mint ≡ mint_at t q) (λ e. ap (mint_at t) (sym e)) refl
 
   pub state-other : (q : ℕ) → q ≢ r → state_at (with_state t r s) q ≡ state_at t q
   unfolding with_state
-  state-other q n = get_or-set_other t (r * mint_width + 64) (q * mint_width + 64) s 0 (λ e. n (omega arith))
+  state-other q n = after t r _ q (λ (x : Row). number_of x.state ≡ state_at t q) (λ e. absurd (n e)) refl
 
-  pub state-here : r * mint_width + mint_width ≤ length t → state_at (with_state t r s) r ≡ s
+  pub state-here : r < length t → state_at (with_state t r s) r ≡ number_of s
   unfolding with_state
-  state-here h = get_or-set_same t (r * mint_width + 64) s 0 (omega arith)
+  state-here h = ap (λ (x : Row). number_of x.state) (get_or-set_same t r _ no_row h)
 
   pub length-state : length (with_state t r s) ≡ length t
   unfolding with_state
-  length-state = length-set t (r * mint_width + 64) s
+  length-state = length-set t r _
 
-module _ (t : List ℕ) (r : ℕ) (m : Key) (w : length m ≡ 32) where
-  account-put : (q : ℕ) → account_at (sets t (r * mint_width + 32) m) q ≡ account_at t q
-  account-put q = window t m (q * mint_width) 32 (r * mint_width + 32) (by_cases (dec_lt r q) (λ (h : r < q). inr (omega arith)) (λ (h : ¬ (r < q)). inl (omega arith)))
+module _ (t : List Row) (r : ℕ) (m : Key) (s : State) where
+  pub account-mint : (q : ℕ) → account_at (with_mint t r m s) q ≡ account_at t q
+  unfolding with_mint
+  account-mint q = after t r _ q (λ (x : Row). x.account ≡ account_at t q) (λ e. ap (account_at t) (sym e)) refl
 
-  mint-put-other : (q : ℕ) → q ≢ r → mint_at (sets t (r * mint_width + 32) m) q ≡ mint_at t q
-  mint-put-other q n =
-      window t m (q * mint_width + 32) 32 (r * mint_width + 32) (⊎_elim (λ (h : q < r). inl (omega arith)) (λ (h : r < q). inr (omega arith)) (sides q r n))
+  pub mint-other : (q : ℕ) → q ≢ r → mint_at (with_mint t r m s) q ≡ mint_at t q
+  unfolding with_mint
+  mint-other q n = after t r _ q (λ (x : Row). x.mint ≡ mint_at t q) (λ e. absurd (n e)) refl
 
-  state-put : (q : ℕ) → state_at (sets t (r * mint_width + 32) m) q ≡ state_at t q
-  state-put q =
-      by_cases
-      (dec_lt q r)
-      (λ (h : q < r). sets-before t (r * mint_width + 32) m (q * mint_width + 64) (omega arith))
-      (λ (h : ¬ (q < r)). sets-after t (r * mint_width + 32) m (q * mint_width + 64) (omega arith))
+  pub mint-here : r < length t → mint_at (with_mint t r m s) r ≡ m
+  unfolding with_mint
+  mint-here h = ap (λ (x : Row). x.mint) (get_or-set_same t r _ no_row h)
 
-  module _ (s : ℕ) where
-    pub account-mint : (q : ℕ) → account_at (with_mint t r m s) q ≡ account_at t q
-    unfolding with_mint with_state
-    account-mint q = account-state (sets t (r * mint_width + 32) m) r s q ∙ account-put q
+  pub states-other : (q : ℕ) → q ≢ r → state_at (with_mint t r m s) q ≡ state_at t q
+  unfolding with_mint
+  states-other q n = after t r _ q (λ (x : Row). number_of x.state ≡ state_at t q) (λ e. absurd (n e)) refl
 
-    pub mint-other : (q : ℕ) → q ≢ r → mint_at (with_mint t r m s) q ≡ mint_at t q
-    unfolding with_mint with_state
-    mint-other q n = mint-state (sets t (r * mint_width + 32) m) r s q ∙ mint-put-other q n
+  pub states-here : r < length t → state_at (with_mint t r m s) r ≡ number_of s
+  unfolding with_mint
+  states-here h = ap (λ (x : Row). number_of x.state) (get_or-set_same t r _ no_row h)
 
-    pub mint-here : r * mint_width + mint_width ≤ length t → mint_at (with_mint t r m s) r ≡ m
-    unfolding with_mint with_state
-    mint-here h = mint-state (sets t (r * mint_width + 32) m) r s r ∙ stored t m (r * mint_width + 32) 32 w (omega arith)
+  pub length-mint : length (with_mint t r m s) ≡ length t
+  unfolding with_mint
+  length-mint = length-set t r _
 
-    pub states-other : (q : ℕ) → q ≢ r → state_at (with_mint t r m s) q ≡ state_at t q
-    unfolding with_mint with_state
-    states-other q n = state-other (sets t (r * mint_width + 32) m) r s q n ∙ state-put q
+-- a mint stored in a row, and then a state
+pub mint-then-state : (t : List Row) (r : ℕ) (m : Key) (s : State) → r < length t
+    → (let u = set t r (record { account = account_at t r; mint = m; state = (get_or t r no_row).state }) in set u r (record { account = account_at u r; mint = mint_at u r; state = s })) ≡ with_mint t r m s
+unfolding with_mint
+mint-then-state t r m s h =
+    let x : Row = record { account = account_at t r; mint = m; state = (get_or t r no_row).state } in
+    ap (λ (y : Row). set (set t r x) r (record { account = y.account; mint = y.mint; state = s })) (get_or-set_same t r x no_row h) ∙ set-set t r x (record { account = account_at t r; mint = m; state = s })
 
-    pub states-here : r * mint_width + mint_width ≤ length t → state_at (with_mint t r m s) r ≡ s
-    unfolding with_mint with_state
-    states-here h = state-here (sets t (r * mint_width + 32) m) r s (simp length-sets h)
+module _ (t : List Row) (r : ℕ) (k : Key) where
+  pub account-other : (q : ℕ) → q ≢ r → account_at (with_account t r k) q ≡ account_at t q
+  unfolding with_account
+  account-other q n = after t r _ q (λ (x : Row). x.account ≡ account_at t q) (λ e. absurd (n e)) refl
 
-    pub length-mint : length (with_mint t r m s) ≡ length t
-    unfolding with_mint with_state
-    length-mint = length-state (sets t (r * mint_width + 32) m) r s ∙ length-sets t (r * mint_width + 32) m
+  pub account-here : r < length t → account_at (with_account t r k) r ≡ k
+  unfolding with_account
+  account-here h = ap (λ (x : Row). x.account) (get_or-set_same t r _ no_row h)
+
+  pub state-account : (q : ℕ) → state_at (with_account t r k) q ≡ state_at t q
+  unfolding with_account
+  state-account q = after t r _ q (λ (x : Row). number_of x.state ≡ state_at t q) (λ e. ap (state_at t) (sym e)) refl
+
+  pub length-account : length (with_account t r k) ≡ length t
+  unfolding with_account
+  length-account = length-set t r _

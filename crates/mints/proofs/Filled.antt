@@ -26,6 +26,7 @@ use Rattle.evidence.specs.Final.{final}
 use Rattle.evidence.proofs.Final.{gives-final}
 use Rattle.evidence.proofs.Lookups.{known, known-mint, known-zero, final-lookup, zero-lacks}
 use Rattle.evidence.proofs.Doubts.{Differ, Doubtful, doubtful-free, doubtful-doubt}
+use Rattle.mints.specs.declared.row.Row.{Row as Working}
 use Rattle.mints.specs.Cells.{mint_at, state_at, state_says}
 use Rattle.mints.specs.declared.pass.Transfer.{Transfer}
 use Rattle.mints.specs.Pass.{from_at, to_at}
@@ -34,7 +35,7 @@ use Rattle.mints.proofs.Holding.{RowsApart, not-zero, HoldsRows, was}
 use Rattle.mints.proofs.Stepped.{Held, pairs_to}
 
 -- what the final table says of a row
-module _ {n : ℕ} {α : ℕ → Key} {e : Evidence} {ps : Transfers} {t : Table} (p : RowsApart n α) (s : Settled e ps t) {w : List ℕ} (h : HoldsRows 3 n α w t) where
+module _ {n : ℕ} {α : ℕ → Key} {e : Evidence} {ps : Transfers} {t : Table} (p : RowsApart n α) (s : Settled e ps t) {w : List Working} (h : HoldsRows 3 n α w t) where
   by_state : (r : ℕ) → 0 < r → r < n → (x : ℕ) → state_at w r ≡ x → lookup (final t) (α r) ≡ cond (ltb 1 x) (some (mint_at w r)) none
   unfolding state_says known
   by_state r z k zero q = final-lookup (settled-distinct s) (α r) ∙ rw (h.said r z k, q)
@@ -100,11 +101,11 @@ module _ {n : ℕ} {α : ℕ → Key} {e : Evidence} {ps : Transfers} {t : Table
       rw (lt-ltb 1 (state_at w a) f.0, lt-ltb 1 (state_at w b) g.0, same-ne (λ q. d (sym f.1 ∙ q ∙ g.1)))
 
 -- row r of n is filled in
-pub record FilledIn (n : ℕ) (w : List ℕ) (r : ℕ) : Type 0 where
+pub record FilledIn (n : ℕ) (w : List Working) (r : ℕ) : Type 0 where
   pub row : r < n
   pub state : state_at w r ≡ 3
 
-module _ {n : ℕ} {α : ℕ → Key} {e : Evidence} {ps : Transfers} {t : Table} (p : RowsApart n α) (s : Settled e ps t) {w : List ℕ} (h : Held n α (recorded e) w t) where
+module _ {n : ℕ} {α : ℕ → Key} {e : Evidence} {ps : Transfers} {t : Table} (p : RowsApart n α) (s : Settled e ps t) {w : List Working} (h : Held n α (recorded e) w t) where
   pub above : {r : ℕ} → FilledIn n w r → 0 < r
   above {r} f = positive p s h.now r (λ q. absurd (omega (arith, f.state)))
 

@@ -21,6 +21,7 @@ use Rattle.token.specs.Programs.{is_token}
 use Rattle.token.specs.Tokens.{token_of}
 use Rattle.token.specs.declared.Token.{Token}
 use Rattle.token.specs.declared.Token.TheVariants.{Initialise, Plain, Checked, WithFee}
+use Rattle.mints.specs.declared.row.Row.{Row}
 use Rattle.mints.specs.Note.{new_at, Noted, note_at}
 use Rattle.mints.specs.declared.pass.Transfer.{Transfer}
 use Rattle.mints.specs.Gather.{row_of_account, note_account, observed, is_plain, transfer_of, token_at, Gathered, gather_at, gather_to}
@@ -79,7 +80,7 @@ pub programs-all : (ks p offsets : List ℕ) (l : List Id) {u : List Id} {i : �
 programs-all ks p offsets l {u} {i} n e = e ∙ ap (sets l 0) (take_all i (programs_of ks p offsets) (omega (arith, programs-length ks p offsets)))
 
 -- an instruction of a token program
-pub gather-next : (ks p offsets row : List ℕ) (s : Gathered) (i : ℕ) {token : Token} {a t t' : List ℕ} {ts ts' : List Transfer} {room count room' count' : ℕ}
+pub gather-next : (ks p offsets row : List ℕ) (s : Gathered) (i : ℕ) {token : Token} {a : List ℕ} {t t' : List Row} {ts ts' : List Transfer} {room count room' count' : ℕ}
     → gather_to ks p offsets row s i ≡ record { noted = record { table = t; room = room }; transfers = ts; count = count }
     → Some token ≡ token_at ks p (get_or offsets i 0)
     → a ≡ (instruction_at p (get_or offsets i 0)).accounts
@@ -91,7 +92,7 @@ unfolding gather_to gather_at
 gather-next ks p offsets row s i e is has seen c x = rw (add-one i, e, ← is, ← has, seen, c, x)
 
 -- the bounds that a turn keeps
-pub room_next : (ks row : List ℕ) (token : Token) (a : List ℕ) (x : Noted) (i : ℕ) {t : List ℕ} {room : ℕ} → observed (key_of ks) row token a x ≡ record { table = t; room = room } → x.room ≤ i * 2 → room ≤ (i + 1) * 2
+pub room_next : (ks row : List ℕ) (token : Token) (a : List ℕ) (x : Noted) (i : ℕ) {t : List Row} {room : ℕ} → observed (key_of ks) row token a x ≡ record { table = t; room = room } → x.room ≤ i * 2 → room ≤ (i + 1) * 2
 room_next ks row token a x i e h = omega (arith, ap (λ (y : Noted). y.room) e, two-more (key_of ks) row token a x)
 
 pub count_next : (b : Bool) (count i : ℕ) {n : ℕ} → n ≡ cond b (suc count) count → count ≤ i → n ≤ i + 1

@@ -14,6 +14,7 @@ use lib.Seq.{sets}
 use borrow.Author.Tests.{eq-eqb, ne_eqb}
 use Rattle.wire.proofs.Sets.{sets_more, sets-after}
 use Rattle.wire.proofs.Tab.{tab-length, tab-at}
+use Rattle.mints.specs.declared.row.Row.{Row}
 use Rattle.mints.specs.Cells.{state_at}
 use Rattle.mints.specs.declared.pass.Transfer.{Transfer}
 use Rattle.mints.specs.Pass.{from_at, to_at}
@@ -60,7 +61,7 @@ relabelled-more x y l r h =
     rw (u, ← relabelled-at x y l r h) (rw zero-add at m)
 
 -- what a transfer between two rows does to the labels, by the tests that lead there
-module _ (t l : List ℕ) (a b : ℕ) where
+module _ (t : List Row) (l : List ℕ) (a b : ℕ) where
   pub meet-differ : differ_at t a b ≡ true → meet_at t l a b ≡ suspect_at t (suspect_at t l a) b
   unfolding meet_at
   meet-differ d = rw d
@@ -78,12 +79,12 @@ module _ (t l : List ℕ) (a b : ℕ) where
   meet-target d p q = rw (d, eq-eqb _ _ p, ne_eqb _ _ q)
 
 -- one transfer more
-pub meet-next : (ts : List Transfer) (t l : List ℕ) (i : ℕ) {k : List ℕ} → k ≡ labels_to ts t l i → meet_at t k (from_at ts i) (to_at ts i) ≡ labels_to ts t l (i + 1)
+pub meet-next : (ts : List Transfer) (t : List Row) (l : List ℕ) (i : ℕ) {k : List ℕ} → k ≡ labels_to ts t l i → meet_at t k (from_at ts i) (to_at ts i) ≡ labels_to ts t l (i + 1)
 unfolding labels_to
 meet-next ts t l i e = rw (add-one i, e)
 
 -- one row more
-module _ (t l : List ℕ) (r : ℕ) {u : List ℕ} (e : u ≡ marks_to t l r) where
+module _ (t : List Row) (l : List ℕ) (r : ℕ) {u : List Row} (e : u ≡ marks_to t l r) where
   pub mark-skip : get_or l r 0 ≢ 0 → u ≡ marks_to t l (r + 1)
   unfolding marks_to
   mark-skip n = rw (add-one r, ← e, ne_eqb _ _ n)

@@ -20,6 +20,7 @@ use Rattle.evidence.proofs.Infer.{Settled}
 use Rattle.evidence.proofs.Chains.{chain-mint, filled-chain}
 use Rattle.evidence.proofs.Independence.{joined-flip}
 use Rattle.evidence.proofs.Doubts.{Doubtful, begins, spreads}
+use Rattle.mints.specs.declared.row.Row.{Row as Working}
 use Rattle.mints.specs.Cells.{state_at}
 use Rattle.mints.specs.declared.pass.Transfer.{Transfer}
 use Rattle.mints.specs.Pass.{from_at, to_at}
@@ -30,7 +31,7 @@ use Rattle.mints.proofs.Stepped.{Held, pairs_to}
 use Rattle.mints.proofs.Filled.{FilledIn, above, free, account, filled, doubtful-filled, rows-differ, differ-rows, pair-in, in_pairs}
 use Rattle.mints.proofs.Together.{Together, label_at, moved, stayed, joined-together, suspected-together}
 
-module _ {n : ℕ} {α : ℕ → Key} {e : Evidence} {ps : Transfers} {t : Table} (p : RowsApart n α) (s : Settled e ps t) {w : List ℕ} (h : Held n α (recorded e) w t) (ts : List Transfer) where
+module _ {n : ℕ} {α : ℕ → Key} {e : Evidence} {ps : Transfers} {t : Table} (p : RowsApart n α) (s : Settled e ps t) {w : List Working} (h : Held n α (recorded e) w t) (ts : List Transfer) where
   -- the first i transfers have joined or put in doubt what they can
   record Walked (i : ℕ) (l : List ℕ) : Type 0 where
     together : Together p s h l

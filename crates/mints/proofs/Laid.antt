@@ -2,30 +2,29 @@
 -- two.
 -- Assumes nothing.
 use mathlib.Core.Path.{◌≡◌, refl, sym, ap, ◌∙◌}
-use mathlib.Core.Logic.{◌≢◌, inl, by_cases}
+use mathlib.Core.Logic.{◌≢◌, by_cases}
 use mathlib.Core.Bool.{Bool, true, false, cond, false≢true}
 use mathlib.Core.List.{List}
-use Prim.Native.Nat.{ℕ, zero, suc, ◌+◌, ◌*◌, ◌≤◌, ◌<◌}
-use native.Mathlib.Decide.{ℕ_discrete, dec_lt}
+use Prim.Native.Nat.{ℕ, zero, suc, ◌+◌, ◌≤◌, ◌<◌}
+use native.Mathlib.Decide.{ℕ_discrete}
 use native.Mathlib.Omega.{arith}
 use lib.ListN.{length, get_or}
-use lib.Seq.{sets, length-sets, get_or-set_same, get_or-set_other}
+use lib.Seq.{get_or-set_same, get_or-set_other}
 use borrow.Author.Tests.{eq-eqb, ne_eqb}
 use Rattle.wire.specs.Same.{same}
 use Rattle.wire.proofs.Same.{same_true, same-eq}
-use Rattle.wire.proofs.Sets.{sets-before, sets-after}
 use Rattle.ids.specs.Keys.{Key, zero_key}
-use Rattle.mints.specs.Bytes.{mint_width}
-use Rattle.mints.specs.Cells.{account_at, state_at, first_row_from}
+use Rattle.mints.specs.declared.row.Row.{Row}
+use Rattle.mints.specs.Cells.{account_at, state_at, first_row_from, with_account}
 use Rattle.mints.specs.Lay.{KeyRows, lay_at, lay_key}
-use Rattle.mints.proofs.Fields.{window, stored}
+use Rattle.mints.proofs.Fields.{account-other, account-here, state-account, length-account}
 
 -- a search finds a row with the key, or comes to the end because no row has it
-pub data Found (t : List ℕ) (k : Key) (i f : ℕ) (r : ℕ) : Type 0 where
+pub data Found (t : List Row) (k : Key) (i f : ℕ) (r : ℕ) : Type 0 where
   there : r < i + f → account_at t r ≡ k → Found t k i f r
   nowhere : r ≡ i + f → ((q : ℕ) → i ≤ q → q < i + f → account_at t q ≢ k) → Found t k i f r
 
-found : (t : List ℕ) (k : Key) (f i : ℕ) → Found t k i f (first_row_from t k f i)
+found : (t : List Row) (k : Key) (f i : ℕ) → Found t k i f (first_row_from t k f i)
 unfolding first_row_from
 found t k zero i = nowhere (omega arith) (λ q a b. absurd (omega arith))
 found t k (suc f) i = go (same (account_at t i) k) refl (found t k f (suc i))
@@ -50,7 +49,7 @@ pub record Rows (κ : ℕ → Key) (size i : ℕ) (s : KeyRows) : Type 0 where
   pub row : (j : ℕ) → j < i → (get_or s.row j 0 < s.rows) × (account_at s.table (get_or s.row j 0) ≡ κ j)
   pub rest : (j : ℕ) → i ≤ j → get_or s.row j 0 ≡ 0
 
-module _ (κ : ℕ → Key) (long : (j : ℕ) → length (κ j) ≡ 32) (size i : ℕ) (s : KeyRows) (h : Rows κ size i s) (k : i < length s.row) (room : suc (suc i) * mint_width ≤ size) where
+module _ (κ : ℕ → Key) (size i : ℕ) (s : KeyRows) (h : Rows κ size i s) (k : i < length s.row) (room : suc (suc i) ≤ size) where
   -- a key that has a row
   old : (r : ℕ) → r < s.rows → account_at s.table r ≡ κ i → Rows κ size (suc i) (lay_at s i (κ i) r)
   unfolding lay_at
@@ -70,24 +69,20 @@ module _ (κ : ℕ → Key) (long : (j : ℕ) → length (κ j) ≡ 32) (size i 
 
   -- a key that has none
   module _ (d : (q : ℕ) → q < s.rows → account_at s.table q ≢ κ i) where
-    added : List ℕ
-    added = sets s.table (s.rows * mint_width) (κ i)
+    added : List Row
+    added = with_account s.table s.rows (κ i)
 
     account-old : (q : ℕ) → q < s.rows → account_at added q ≡ account_at s.table q
     unfolding added
-    account-old q l = window s.table (κ i) (q * mint_width) 32 (s.rows * mint_width) (inl (omega arith))
+    account-old q l = account-other s.table s.rows (κ i) q (omega arith)
 
     account-new : account_at added s.rows ≡ κ i
     unfolding added
-    account-new = stored s.table (κ i) (s.rows * mint_width) 32 (long i) (omega (arith, h.few, h.whole))
+    account-new = account-here s.table s.rows (κ i) (omega (arith, h.few, h.whole))
 
     state-same : (q : ℕ) → state_at added q ≡ state_at s.table q
     unfolding added
-    state-same q =
-        by_cases
-        (dec_lt q s.rows)
-        (λ (l : q < s.rows). sets-before s.table (s.rows * mint_width) (κ i) (q * mint_width + 64) (omega arith))
-        (λ (l : ¬ (q < s.rows)). sets-after s.table (s.rows * mint_width) (κ i) (q * mint_width + 64) (omega (arith, long i)))
+    state-same q = state-account s.table s.rows (κ i) q
 
     -- the rows stay apart
     apart : (r q : ℕ) → r < suc s.rows → q < suc s.rows → account_at added r ≡ account_at added q → r ≡ q
@@ -110,7 +105,7 @@ module _ (κ : ℕ → Key) (long : (j : ℕ) → length (κ j) ≡ 32) (size i 
     new r z =
         rw (eq-eqb r s.rows z, z)
         (record {
-          whole = length-sets s.table (s.rows * mint_width) (κ i) ∙ h.whole;
+          whole = length-account s.table s.rows (κ i) ∙ h.whole;
           few = omega (arith, h.few);
           some_row = omega arith;
           zero_row = account-old 0 h.some_row ∙ h.zero_row;

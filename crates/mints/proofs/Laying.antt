@@ -4,22 +4,22 @@ use mathlib.Core.Path.{◌≡◌, refl, sym, ap, ◌∙◌}
 use mathlib.Core.Logic.{◌≢◌}
 use mathlib.Core.Bool.{Bool, true, false, cond}
 use mathlib.Core.List.{List}
-use Prim.Native.Nat.{ℕ, suc, ◌+◌, ◌*◌, ◌≤◌, ◌<◌}
+use Prim.Native.Nat.{ℕ, suc, ◌+◌, ◌≤◌, ◌<◌}
 use native.Mathlib.Numerals.{add-one}
 use native.Mathlib.Omega.{arith}
 use borrow.Author.Tests.{eqb-true, eqb-false, ltb-true, ltb-false}
 use lib.Dec.{ltb, eqb}
 use lib.ListN.{length, get_or, set}
-use lib.Seq.{sets, get_or-set_same, get_or-set_other}
-use Rattle.wire.proofs.Sets.{sets-before, sets-in}
+use lib.Seq.{get_or-set_same, get_or-set_other}
+use Rattle.mints.specs.declared.row.Row.{Row}
+use Rattle.mints.proofs.Fields.{account-other, account-here}
 use Rattle.ids.specs.Keys.{Key}
-use Rattle.mints.specs.Bytes.{mint_width}
-use Rattle.mints.specs.Cells.{first_row, LastBytesSeen}
+use Rattle.mints.specs.Cells.{account_at, first_row, with_account, LastBytesSeen}
 use Rattle.mints.specs.Lay.{KeyRows, lay_at, lay_key, lay_to}
 
 -- a search and what follows from it
-pub lay-next : (κ : ℕ → Key) (t row : List ℕ) (i : ℕ) (s : KeyRows) {k : Key} {r n : ℕ} {u : List ℕ} → lay_to κ t row i ≡ s → k ≡ κ i → r ≡ first_row s.table k s.rows
-    → u ≡ cond (eqb r s.rows) (sets s.table (r * mint_width) k) s.table
+pub lay-next : (κ : ℕ → Key) (t : List Row) (row : List ℕ) (i : ℕ) (s : KeyRows) {k : Key} {r n : ℕ} {u : List Row} → lay_to κ t row i ≡ s → k ≡ κ i → r ≡ first_row s.table k s.rows
+    → u ≡ cond (eqb r s.rows) (with_account s.table r k) s.table
     → n ≡ cond (eqb r s.rows) (suc s.rows) s.rows
     → lay_to κ t row (i + 1) ≡ record { table = u; row = set s.row i r; rows = n }
 unfolding lay_to lay_key lay_at
@@ -42,30 +42,30 @@ marked ends b x h f e = go (eqb x b) refl
     go false q = f (eqb-false x b q) (sym (get_or-set_other ends b x 1 0 (eqb-false x b q)) ∙ e)
 
 -- the last byte of row 0
-pub ends-first : (t ends : List ℕ) {b : ℕ} → b ≡ get_or t 31 0 → b < length ends → LastBytesSeen t 1 (set ends b 1)
+pub ends-first : (t : List Row) (ends : List ℕ) {b : ℕ} → b ≡ get_or (account_at t 0) 31 0 → b < length ends → LastBytesSeen t 1 (set ends b 1)
 ends-first t ends {b} e h r l =
-    let z : r * mint_width + 31 ≡ 31 = omega arith in
-    marked ends b _ h (λ n. absurd (n (ap (λ (y : ℕ). get_or t y 0) z ∙ sym e)))
+    let z : r ≡ 0 = omega arith in
+    marked ends b _ h (λ n. absurd (n (ap (λ (q : ℕ). get_or (account_at t q) 31 0) z ∙ sym e)))
 
 -- and of one key more
-pub ends_more : (t k ends : List ℕ) (n r : ℕ) {b m : ℕ} {u : List ℕ} → LastBytesSeen t n ends → length k ≡ 32 → suc n * mint_width ≤ length t → b ≡ get_or k 31 0 → b < length ends
-    → u ≡ cond (eqb r n) (sets t (r * mint_width) k) t
+pub ends_more : (t : List Row) (k ends : List ℕ) (n r : ℕ) {b m : ℕ} {u : List Row} → LastBytesSeen t n ends → suc n ≤ length t → b ≡ get_or k 31 0 → b < length ends
+    → u ≡ cond (eqb r n) (with_account t r k) t
     → m ≡ cond (eqb r n) (suc n) n
     → LastBytesSeen u m (set ends b 1)
-ends_more t k ends n r {b} f w fits e h hu hm = rw (hu, hm) (go (eqb r n) refl)
+ends_more t k ends n r {b} f fits e h hu hm = rw (hu, hm) (go (eqb r n) refl)
   where
-    old : (q : ℕ) → q < n → r ≡ n → get_or (set ends b 1) (get_or (sets t (r * mint_width) k) (q * mint_width + 31) 0) 0 ≢ 0
-    old q l s = rw (sets-before t (r * mint_width) k (q * mint_width + 31) (omega arith)) (marked ends b _ h (λ _. f q l))
+    old : (q : ℕ) → q < n → r ≡ n → get_or (set ends b 1) (get_or (account_at (with_account t r k) q) 31 0) 0 ≢ 0
+    old q l s = rw (account-other t r k q (omega arith)) (marked ends b _ h (λ _. f q l))
 
-    new : (q : ℕ) → q ≡ r → r ≡ n → get_or (set ends b 1) (get_or (sets t (r * mint_width) k) (q * mint_width + 31) 0) 0 ≢ 0
-    new q s z = rw (s, sets-in t (r * mint_width) k 31 (omega arith) (omega arith)) (marked ends b _ h (λ x. absurd (x (sym e))))
+    new : (q : ℕ) → q ≡ r → r ≡ n → get_or (set ends b 1) (get_or (account_at (with_account t r k) q) 31 0) 0 ≢ 0
+    new q s z = rw (s, account-here t r k (omega arith)) (marked ends b _ h (λ x. absurd (x (sym e))))
 
-    among : (q : ℕ) → q < suc n → r ≡ n → (c : Bool) → ltb q n ≡ c → get_or (set ends b 1) (get_or (sets t (r * mint_width) k) (q * mint_width + 31) 0) 0 ≢ 0
+    among : (q : ℕ) → q < suc n → r ≡ n → (c : Bool) → ltb q n ≡ c → get_or (set ends b 1) (get_or (account_at (with_account t r k) q) 31 0) 0 ≢ 0
     among q l s true z = old q (ltb-true q n z) s
     among q l s false z =
         let g = ltb-false q n z in
         new q (omega arith) s
 
-    go : (c : Bool) → eqb r n ≡ c → LastBytesSeen (cond c (sets t (r * mint_width) k) t) (cond c (suc n) n) (set ends b 1)
+    go : (c : Bool) → eqb r n ≡ c → LastBytesSeen (cond c (with_account t r k) t) (cond c (suc n) n) (set ends b 1)
     go true s q l = among q l (eqb-true r n s) (ltb q n) refl
     go false s q l = marked ends b _ h (λ _. f q l)

@@ -1,6 +1,6 @@
+pub mod Full
 pub mod Search
 pub mod Laying
-pub mod Copying
 pub mod Noting
 pub mod Passing
 pub mod Labelling

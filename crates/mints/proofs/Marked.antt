@@ -1,10 +1,10 @@
--- When the labels are set: the rows under label 0 are marked, those that are filled in, and nothing else changes, since a mark is one byte of one row.
+-- When the labels are set: the rows under label 0 are marked, those that are filled in, and nothing else changes, since a mark is the state of one row.
 -- Assumes nothing.
 use mathlib.Core.Path.{◌≡◌, refl, sym, ◌∙◌}
 use mathlib.Core.Logic.{◌↔◌, by_cases}
 use mathlib.Core.Bool.{Bool, true, false, cond}
 use mathlib.Core.List.{List}
-use Prim.Native.Nat.{ℕ, zero, suc, ◌*◌, ◌≤◌, ◌<◌}
+use Prim.Native.Nat.{ℕ, zero, suc, ◌≤◌, ◌<◌}
 use native.Mathlib.Decide.{ℕ_discrete}
 use native.Mathlib.Omega.{arith}
 use lib.Dec.{eqb, ltb}
@@ -15,7 +15,7 @@ use Rattle.evidence.specs.Evidence.{Evidence, recorded}
 use Rattle.evidence.specs.Passes.{Transfers}
 use Rattle.evidence.proofs.Infer.{Settled}
 use Rattle.evidence.proofs.Doubts.{Doubtful}
-use Rattle.mints.specs.Bytes.{mint_width}
+use Rattle.mints.specs.declared.row.Row.{Row}
 use Rattle.mints.specs.Cells.{account_at, mint_at, state_at}
 use Rattle.mints.specs.declared.pass.Transfer.{Transfer}
 use Rattle.mints.specs.Pass.{from_at, to_at}
@@ -26,14 +26,14 @@ use Rattle.mints.proofs.Stepped.{Held, pairs_to}
 use Rattle.mints.proofs.Labels.{labels-tell}
 
 -- v is w with the first i rows marked by the labels l
-record MarkedTo (w l : List ℕ) (i : ℕ) (v : List ℕ) : Type 0 where
+record MarkedTo (w : List Row) (l : List ℕ) (i : ℕ) (v : List Row) : Type 0 where
   length : length v ≡ length w
   account : (r : ℕ) → account_at v r ≡ account_at w r
   mint : (r : ℕ) → mint_at v r ≡ mint_at w r
   done : (r : ℕ) → r < i → state_at v r ≡ marked (state_at w r) (eqb (get_or l r 0) 0)
   left : (r : ℕ) → i ≤ r → state_at v r ≡ state_at w r
 
-marks : (w l : List ℕ) (i : ℕ) → i * mint_width ≤ length w → MarkedTo w l i (marks_to w l i)
+marks : (w : List Row) (l : List ℕ) (i : ℕ) → i ≤ length w → MarkedTo w l i (marks_to w l i)
 unfolding marks_to
 marks w l zero h = record { length = refl; account = λ r. refl; mint = λ r. refl; done = λ r k. absurd (omega arith); left = λ r k. refl }
 marks w l (suc i) h = go (eqb (get_or l i 0) 0) refl (marks w l i (omega arith))
@@ -58,7 +58,7 @@ marks w l (suc i) h = go (eqb (get_or l i 0) 0) refl (marks w l i (omega arith))
         }
 
 -- v is w with its filled-in rows marked where they are in doubt
-pub record Marked (n : ℕ) (α : ℕ → Key) (e : Evidence) (ps : Transfers) (t : Table) (w v : List ℕ) : Type 0 where
+pub record Marked (n : ℕ) (α : ℕ → Key) (e : Evidence) (ps : Transfers) (t : Table) (w v : List Row) : Type 0 where
   pub length : length v ≡ length w
   pub account : (r : ℕ) → account_at v r ≡ account_at w r
   pub mint : (r : ℕ) → mint_at v r ≡ mint_at w r
@@ -68,11 +68,11 @@ pub record Marked (n : ℕ) (α : ℕ → Key) (e : Evidence) (ps : Transfers) (
 
 module _ {n : ℕ} {α : ℕ → Key} {e : Evidence} {ps : Transfers} {t : Table} where
   -- a mark says nothing of whether there is a mint
-  pub has-mint : {w v : List ℕ} (m : Marked n α e ps t w v) (r : ℕ) → r < n → ltb 1 (state_at v r) ≡ ltb 1 (state_at w r)
+  pub has-mint : {w v : List Row} (m : Marked n α e ps t w v) (r : ℕ) → r < n → ltb 1 (state_at v r) ≡ ltb 1 (state_at w r)
   has-mint {w} m r k = rw (m.state r k) (marked-mint (state_at w r) (eqb (get_or m.label r 0) 0))
 
   -- what the walk over the transfers comes to
-  pub doubts-marked : {w : List ℕ} → RowsApart n α → Settled e ps t → Held n α (recorded e) w t → (ts : List Transfer) → pairs_to α ts (length ts) ≡ ps
+  pub doubts-marked : {w : List Row} → RowsApart n α → Settled e ps t → Held n α (recorded e) w t → (ts : List Transfer) → pairs_to α ts (length ts) ≡ ps
       → ((i : ℕ) → from_at ts i < n) → ((i : ℕ) → to_at ts i < n) → Marked n α e ps t w (doubts_of ts w n)
   doubts-marked {w} p s h ts all x y =
       let l = labels_to ts w (own_labels n) (length ts) in

@@ -13,16 +13,18 @@ use borrow.Author.Tests.{eq-eqb, ne_eqb}
 use Rattle.wire.specs.Le.{le}
 use Rattle.wire.specs.Same.{same}
 use Rattle.ids.specs.Keys.{Key, zero_key, account}
+use Rattle.mints.specs.declared.row.Row.{Row}
+use Rattle.mints.specs.declared.row.State.TheVariants.{Ambiguous, Recorded}
 use Rattle.mints.specs.Cells.{mint_at, state_at, with_mint, with_state}
 use Rattle.mints.specs.Gather.{row_of_account, note_account}
 use Rattle.mints.specs.Note.{record_at, new_at, Noted, note_at, balances_to}
 
-module _ (t : List ℕ) (r : ℕ) (m : Key) where
+module _ (t : List Row) (r : ℕ) (m : Key) where
   pub note-zero : same m zero_key ≡ true → (t ≡ record_at t r m) × (0 ≡ new_at t r m)
   unfolding record_at new_at
   note-zero e = simp e (refl, refl)
 
-  pub note-first : same m zero_key ≡ false → state_at t r ≡ 0 → (with_mint t r m 2 ≡ record_at t r m) × (1 ≡ new_at t r m)
+  pub note-first : same m zero_key ≡ false → state_at t r ≡ 0 → (with_mint t r m Recorded ≡ record_at t r m) × (1 ≡ new_at t r m)
   unfolding record_at new_at
   note-first e f = simp (e, eq-eqb _ _ f) (refl, refl)
 
@@ -39,7 +41,7 @@ module _ (t : List ℕ) (r : ℕ) (m : Key) where
   unfolding record_at new_at
   note-again f g = simp (f, g) (idle (same m zero_key))
 
-  pub note-other : same m zero_key ≡ false → state_at t r ≡ 2 → same m (mint_at t r) ≡ false → (with_state t r 1 ≡ record_at t r m) × (0 ≡ new_at t r m)
+  pub note-other : same m zero_key ≡ false → state_at t r ≡ 2 → same m (mint_at t r) ≡ false → (with_state t r Ambiguous ≡ record_at t r m) × (0 ≡ new_at t r m)
   unfolding record_at new_at
   note-other e f g = simp (e, f, g) (refl, refl)
 
@@ -53,7 +55,7 @@ module _ (t : List ℕ) (r : ℕ) (m : Key) where
       go false false = omega arith
 
 -- one balance row more
-pub balance-next : (s row t : List ℕ) (i : ℕ) {u : List ℕ} {k : ℕ} → balances_to s row t i ≡ record { table = u; room = k }
+pub balance-next : (s row : List ℕ) (t : List Row) (i : ℕ) {u : List Row} {k : ℕ} → balances_to s row t i ≡ record { table = u; room = k }
     → balances_to s row t (i + 1) ≡ note_at (record { table = u; room = k }) (get_or row (le 4 s (i * 36)) 0) (take 32 (drop (i * 36 + 4) s))
 unfolding balances_to
 balance-next s row t i e = rw (add-one i, e)

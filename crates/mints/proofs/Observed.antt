@@ -7,11 +7,10 @@ use mathlib.Core.List.{List, []}
 use Prim.Native.Nat.{ℕ, zero, suc, ◌+◌, ◌*◌, ◌/◌, ◌≤◌, ◌<◌}
 use native.Mathlib.Omega.{arith}
 use lib.Dec.{ltb}
-use lib.ListN.{length, get_or, take, drop, length-take, length-drop}
+use lib.ListN.{length, get_or, take, drop}
 use Rattle.std.specs.Prelude.{Some}
 use Rattle.wire.specs.Le.{le}
 use Rattle.ids.specs.Keys.{Key, zero_key, account}
-use Rattle.ids.proofs.Keys.{account-length}
 use Rattle.pack.specs.View.{balances_in}
 use Rattle.pack.proofs.Rows.{balance-row, balances-length}
 use Rattle.token.specs.Records.{both_ends}
@@ -21,6 +20,7 @@ use Rattle.evidence.specs.Table.{Table}
 use Rattle.evidence.specs.Evidence.{note, note_all}
 use Rattle.evidence.specs.Gather.{gather}
 use Rattle.evidence.proofs.Loops.{gather-take, note_all-append}
+use Rattle.mints.specs.declared.row.Row.{Row}
 use Rattle.mints.specs.Note.{Noted, note_at, balances_to}
 use Rattle.mints.specs.Gather.{row_of_account, note_account, observed}
 use Rattle.mints.specs.Inference.{balance_says}
@@ -38,10 +38,10 @@ abbrev pub Indexed : ℕ → (ℕ → Key) → (ℕ → Key) → List ℕ → Ty
 Indexed n α κ row = (j : ℕ) → (get_or row j 0 < n) × (α (get_or row j 0) ≡ κ j)
 
 -- one note more
-noted-at : {n : ℕ} {α : ℕ → Key} → RowsApart n α → (x : Noted) (t : Table) → Notes n α x t → (r : ℕ) → r < n → (a : Key) → α r ≡ a → (m : Key) → length m ≡ 32 → Notes n α (note_at x r m) (note t (a, m))
+noted-at : {n : ℕ} {α : ℕ → Key} → RowsApart n α → (x : Noted) (t : Table) → Notes n α x t → (r : ℕ) → r < n → (a : Key) → α r ≡ a → (m : Key) → Notes n α (note_at x r m) (note t (a, m))
 unfolding note_at
-noted-at {n} {α} p x t h r l a e m w =
-    let y = noted p x.table t h.holds r l m w in
+noted-at {n} {α} p x t h r l a e m =
+    let y = noted p x.table t h.holds r l m in
     rw (← e) (record { holds = y.0; counts = y.1 ∙ omega (arith, h.counts) })
 
 module _ {n : ℕ} {α κ : ℕ → Key} (p : RowsApart n α) (long : (j : ℕ) → length (κ j) ≡ 32) (row : List ℕ) (at : Indexed n α κ row) where
@@ -56,7 +56,7 @@ module _ {n : ℕ} {α κ : ℕ → Key} (p : RowsApart n α) (long : (j : ℕ) 
 
   one-account : (a : List ℕ) (x : Noted) (t : Table) (i : ℕ) → Notes n α x t → Notes n α (note_account κ row a x i) (note t (account κ a i, account κ a 1))
   unfolding note_account
-  one-account a x t i h = let r = row-account a i in noted-at p x t h (row_of_account row a i) r.0 (account κ a i) r.1 (account κ a 1) (account-length κ long a 1)
+  one-account a x t i h = let r = row-account a i in noted-at p x t h (row_of_account row a i) r.0 (account κ a i) r.1 (account κ a 1)
 
   -- a token instruction
   pub observes : (token : Token) (a : List ℕ) (x : Noted) (t : Table) → Notes n α x t → Notes n α (observed κ row token a x) (note_all t (pieces κ (Some token) a))
@@ -76,7 +76,7 @@ balances-next κ t s i h =
     ∙ ap (λ (b : ℕ × Key). note_all (note_all t (gather (balance_says κ) (take i (balances_in s)))) (balance_says κ b)) (balance-row s i (0, []) h)
 
 -- the balance rows
-pub balances-noted : {n : ℕ} {α κ : ℕ → Key} → RowsApart n α → (row : List ℕ) → Indexed n α κ row → (s w : List ℕ) (t : Table) → Notes n α (record { table = w; room = 0 }) t → (i : ℕ) → i ≤ length s / 36
+pub balances-noted : {n : ℕ} {α κ : ℕ → Key} → RowsApart n α → (row : List ℕ) → Indexed n α κ row → (s : List ℕ) (w : List Row) (t : Table) → Notes n α (record { table = w; room = 0 }) t → (i : ℕ) → i ≤ length s / 36
     → Notes n α (balances_to s row w i) (note_all t (gather (balance_says κ) (take i (balances_in s))))
 unfolding balances_to gather note_all
 balances-noted p row at s w t h zero l = h
@@ -84,5 +84,5 @@ balances-noted {n} {α} {κ} p row at s w t h (suc i) l =
     let j = le 4 s (i * 36) in
     let m = take 32 (drop (i * 36 + 4) s) in
     let u = note_all t (gather (balance_says κ) (take i (balances_in s))) in
-    let y = noted-at p (balances_to s row w i) u (balances-noted p row at s w t h i (omega arith)) (get_or row j 0) (at j).0 (κ j) (at j).1 m (simp (length-take, length-drop) (omega arith)) in
+    let y = noted-at p (balances_to s row w i) u (balances-noted p row at s w t h i (omega arith)) (get_or row j 0) (at j).0 (κ j) (at j).1 m in
     subst (λ (v : Table). Notes n α (note_at (balances_to s row w i) (get_or row j 0) m) v) (sym (balances-next κ t s i (omega arith))) y

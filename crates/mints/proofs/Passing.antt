@@ -10,12 +10,13 @@ use native.Mathlib.Omega.{arith}
 use lib.Dec.{eqb, ltb}
 use lib.ListN.{length}
 use borrow.Author.Tests.{eq-eqb, ne_eqb, lt-ltb, le-ltb}
+use Rattle.mints.specs.declared.row.Row.{Row}
 use Rattle.mints.specs.Cells.{state_at}
 use Rattle.mints.specs.declared.pass.Transfer.{Transfer}
 use Rattle.mints.specs.Pass.{from_at, to_at, hand_at, step_at, filled_at, pass_to, passes_from}
 
 -- a transfer fills in at most one account
-pub one-filled : (t : List ℕ) (a b : ℕ) → filled_at t a b ≤ 1
+pub one-filled : (t : List Row) (a b : ℕ) → filled_at t a b ≤ 1
 unfolding filled_at
 one-filled t a b = go (eqb (state_at t a) 0) (ltb 1 (state_at t b)) (eqb (state_at t b) 0) (ltb 1 (state_at t a))
   where
@@ -27,7 +28,7 @@ one-filled t a b = go (eqb (state_at t a) 0) (ltb 1 (state_at t b)) (eqb (state_
     go false q false s = omega arith
 
 -- the ways through a step, by the states of the two rows
-module _ (t : List ℕ) (a b : ℕ) where
+module _ (t : List Row) (a b : ℕ) where
   pub step-low : state_at t a ≡ 0 → state_at t b ≤ 1 → (step_at t a b ≡ t) × (filled_at t a b ≡ 0)
   unfolding step_at filled_at
   step-low e f = simp (eq-eqb _ _ e, le-ltb 1 (state_at t b) f) (refl, refl)
@@ -48,8 +49,8 @@ module _ (t : List ℕ) (a b : ℕ) where
   unfolding step_at filled_at
   step_both e f = simp (ne_eqb (state_at t a) 0 (λ q. omega arith), ne_eqb (state_at t b) 0 (λ q. omega arith)) (refl, refl)
 
-module _ (ts : List Transfer) (t : List ℕ) where
-  pub pass-next : (i : ℕ) {u : List ℕ} {k : ℕ} → pass_to ts t i ≡ record { table = u; room = k }
+module _ (ts : List Transfer) (t : List Row) where
+  pub pass-next : (i : ℕ) {u : List Row} {k : ℕ} → pass_to ts t i ≡ record { table = u; room = k }
       → pass_to ts t (i + 1) ≡ record { table = step_at u (from_at ts i) (to_at ts i); room = k + filled_at u (from_at ts i) (to_at ts i) }
   unfolding pass_to
   pass-next i e = rw (add-one i, e)
@@ -59,7 +60,7 @@ module _ (ts : List Transfer) (t : List ℕ) where
   filled-bound zero = omega arith
   filled-bound (suc i) = omega (arith, filled-bound i, one-filled (pass_to ts t i).table (from_at ts i) (to_at ts i))
 
-module _ (ts : List Transfer) (t : List ℕ) (room p : ℕ) where
+module _ (ts : List Transfer) (t : List Row) (room p : ℕ) where
   pub passes-last : p < 512 → (pass_to ts t (length ts)).room ≡ 0 → passes_from ts (512 - p) t room p ≡ record { table = (pass_to ts t (length ts)).table; room = room; passes = some (p + 1) }
   unfolding passes_from
   passes-last h e =

@@ -26,7 +26,8 @@ use Rattle.mints.proofs.Stepped.{pairs_to}
 use Rattle.mints.proofs.Observed.{Notes, balances-noted}
 use Rattle.mints.specs.declared.pass.Transfer.{Transfer}
 use Rattle.mints.specs.Pass.{no_transfer}
-use Rattle.mints.proofs.Collected.{full-of, Collected, instructions, collected}
+use Rattle.mints.proofs.Full.{full-of}
+use Rattle.mints.proofs.Collected.{Collected, instructions, collected}
 use Rattle.mints.proofs.Preparing.{rows-laid, laid-index}
 
 module _ (ks b p o : List ℕ) (few : key_count ks ≤ 256) (short : length o ≤ 1024) where

@@ -4,7 +4,7 @@ use mathlib.Core.Path.{◌≡◌, refl, ap, ◌∙◌}
 use mathlib.Core.Logic.{◌≢◌, by_cases}
 use mathlib.Core.Option.{none, some}
 use mathlib.Core.List.{List}
-use Prim.Native.Nat.{ℕ, zero, suc, ◌+◌, ◌*◌, ◌≤◌, ◌<◌}
+use Prim.Native.Nat.{ℕ, zero, suc, ◌+◌, ◌≤◌, ◌<◌}
 use native.Mathlib.Decide.{ℕ_discrete}
 use native.Mathlib.Omega.{arith}
 use lib.ListN.{length}
@@ -15,16 +15,17 @@ use Rattle.evidence.specs.Table.{Table, lookup}
 use Rattle.evidence.specs.Evidence.{note}
 use Rattle.evidence.proofs.Recording.{note-account, note-mint}
 use Rattle.evidence.proofs.Lookups.{merge, note-here, note-other, note-first, note-again}
-use Rattle.mints.specs.Bytes.{mint_width}
-use Rattle.mints.specs.Cells.{mint_at, state_at, state_says, with_mint, with_state}
+use Rattle.mints.specs.declared.row.Row.{Row}
+use Rattle.mints.specs.declared.row.State.TheVariants.{Ambiguous, Recorded}
+use Rattle.mints.specs.Cells.{number_of, mint_at, state_at, state_says, with_mint, with_state}
 use Rattle.mints.specs.Note.{record_at, new_at}
 use Rattle.mints.proofs.Noting as noting
 use Rattle.mints.proofs.Fields.{mint-here, states-here, state-here}
 use Rattle.mints.proofs.Holding.{RowsApart, not-zero, HoldsRows, unchanged, changed-state, changed-mint, update}
 
-module _ {n : ℕ} {α : ℕ → Key} (p : RowsApart n α) (w : List ℕ) (t : Table) (h : HoldsRows 2 n α w t) (r : ℕ) (l : r < n) (m : Key) (e : length m ≡ 32) where
+module _ {n : ℕ} {α : ℕ → Key} (p : RowsApart n α) (w : List Row) (t : Table) (h : HoldsRows 2 n α w t) (r : ℕ) (l : r < n) (m : Key) where
   -- what is to be shown, of the table and of the count
-  NotedRow : List ℕ → ℕ → Type 0
+  NotedRow : List Row → ℕ → Type 0
   NotedRow v k = HoldsRows 2 n α v (note t (α r, m)) × (length (note t (α r, m)) ≡ length t + k)
 
   idle : note t (α r, m) ≡ t → NotedRow w 0
@@ -32,7 +33,7 @@ module _ {n : ℕ} {α : ℕ → Key} (p : RowsApart n α) (w : List ℕ) (t : T
   idle q = rw q (h, omega arith)
 
   module _ (z : 0 < r) (v : m ≢ zero_key) where
-    whole : r * mint_width + mint_width ≤ length w
+    whole : r < length w
     whole = omega (arith, h.long)
 
     others : (a : Key) → a ≢ α r → lookup (note t (α r, m)) a ≡ lookup t a
@@ -41,13 +42,13 @@ module _ {n : ℕ} {α : ℕ → Key} (p : RowsApart n α) (w : List ℕ) (t : T
     here : lookup (note t (α r, m)) (α r) ≡ some (merge (lookup t (α r)) m)
     here = note-here t (α r, m) (not-zero p r z l) v
 
-    first : state_at w r ≡ 0 → NotedRow (with_mint w r m 2) 1
-    unfolding NotedRow state_says merge
+    first : state_at w r ≡ 0 → NotedRow (with_mint w r m Recorded) 1
+    unfolding NotedRow state_says merge number_of
     first q =
         let g : lookup t (α r) ≡ none = h.said r z l ∙ rw q in
-        let s = states-here w r m e 2 whole in
-        let k = mint-here w r m e 2 whole in (
-          update p h r z l (changed-mint w r m 2 e) others (here ∙ rw (g, s, k)) (λ _. rw k v) (omega (arith, s)),
+        let s = states-here w r m Recorded whole in
+        let k = mint-here w r m Recorded whole in (
+          update p h r z l (changed-mint w r m Recorded) others (here ∙ rw (g, s, k)) (λ _. rw k v) (omega (arith, s)),
           note-first t (α r, m) (not-zero p r z l) v g ∙ omega arith,
         )
 
@@ -71,11 +72,11 @@ module _ {n : ℕ} {α : ℕ → Key} (p : RowsApart n α) (w : List ℕ) (t : T
         note-again t (α r, m) has ∙ omega arith,
       )
 
-      other : m ≢ mint_at w r → NotedRow (with_state w r 1) 0
-      unfolding NotedRow state_says merge
+      other : m ≢ mint_at w r → NotedRow (with_state w r Ambiguous) 0
+      unfolding NotedRow state_says merge number_of
       other d =
-          let s = state-here w r 1 whole in (
-            update p h r z l (changed-state w r 1) others (here ∙ rw (has, s, same-ne d)) (λ o. absurd (omega (arith, s))) (omega (arith, s)),
+          let s = state-here w r Ambiguous whole in (
+            update p h r z l (changed-state w r Ambiguous) others (here ∙ rw (has, s, same-ne d)) (λ o. absurd (omega (arith, s))) (omega (arith, s)),
             note-again t (α r, m) has ∙ omega arith,
           )
 

@@ -16,6 +16,7 @@ use Rattle.evidence.specs.Infer.{infer}
 use Rattle.evidence.proofs.Infer.{infer-settled}
 use Rattle.evidence.specs.MintTable.{MintAnswer, mints}
 use Rattle.evidence.proofs.Loops.{mints-some, mints-none}
+use Rattle.mints.specs.declared.row.Row.{Row}
 use Rattle.mints.specs.Cells.{mint_at, state_at, state_says}
 use Rattle.mints.specs.declared.pass.Transfer.{Transfer}
 use Rattle.mints.specs.Gather.{Gathered}
@@ -39,7 +40,7 @@ was-held (suc zero) m h = refl
 was-held (suc (suc zero)) m h = refl
 was-held (suc (suc (suc s))) m h = absurd (omega arith)
 
-start : {n : ℕ} {α : ℕ → Key} {w : List ℕ} {t : Table} → HoldsRows 2 n α w t → Held n α t w t
+start : {n : ℕ} {α : ℕ → Key} {w : List Row} {t : Table} → HoldsRows 2 n α w t → Held n α t w t
 start {w} h =
     record {
       now = record { long = h.long; account = λ r l. h.account r l; first = h.first; low = λ r l. omega (arith, h.low r l); said = λ r z l. h.said r z l; mint = λ r l o. h.mint r l o; cover = λ a m q. h.cover a m q };
@@ -63,7 +64,7 @@ module _ {n : ℕ} {α : ℕ → Key} (p : RowsApart n α) (e : Evidence) (ps : 
   abbrev pub over_all : Ran
   over_all = passes listed x.noted.table x.noted.room
 
-  abbrev pub marked_all : List ℕ
+  abbrev pub marked_all : List Row
   marked_all = doubts_of listed over_all.table n
 
   ended : Ended n α (recorded e) over_all (infer 512 e ps)

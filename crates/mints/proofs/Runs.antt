@@ -18,6 +18,7 @@ use Rattle.evidence.specs.Run.{TableAfter, run}
 use Rattle.evidence.specs.Infer as theory
 use Rattle.evidence.proofs.Infer as laws
 use Rattle.evidence.proofs.Loops.{plus, run-start, run-next, run-last, run-over, infer-empty, infer-run}
+use Rattle.mints.specs.declared.row.Row.{Row}
 use Rattle.mints.specs.declared.pass.Transfer.{Transfer}
 use Rattle.mints.specs.Pass.{from_at, to_at, pass_to, Ran, passes_from, passes}
 use Rattle.mints.proofs.Holding.{RowsApart}
@@ -33,7 +34,7 @@ no_rows [] q = refl
 no_rows (x ∷ t) q = absurd (omega arith)
 
 module _ {n : ℕ} {α : ℕ → Key} {r₀ : Table} (p : RowsApart n α) (ts : List Transfer) (a : (i : ℕ) → from_at ts i < n) (b : (i : ℕ) → to_at ts i < n) where
-  runs : (d k : ℕ) → k + d ≡ 512 → {w : List ℕ} {t : Table} (room : ℕ) → Held n α r₀ w t → length t ≡ room
+  runs : (d k : ℕ) → k + d ≡ 512 → {w : List Row} {t : Table} (room : ℕ) → Held n α r₀ w t → length t ≡ room
       → Ended n α r₀ (passes_from ts d w room k) (plus k (run (512 - k) (theory.pass_over (pairs_to α ts (length ts))) t))
   unfolding passes_from
   runs zero k q {w} {t} room h e =
@@ -63,7 +64,7 @@ module _ {n : ℕ} {α : ℕ → Key} {r₀ : Table} (p : RowsApart n α) (ts : 
           (below x.0 (omega (arith, x.1)))
 
   -- from what is recorded
-  pub ran : (e : Evidence) {w : List ℕ} (room : ℕ) → Held n α r₀ w (recorded e) → length (recorded e) ≡ room → Ended n α r₀ (passes ts w room) (theory.infer 512 e (pairs_to α ts (length ts)))
+  pub ran : (e : Evidence) {w : List Row} (room : ℕ) → Held n α r₀ w (recorded e) → length (recorded e) ≡ room → Ended n α r₀ (passes ts w room) (theory.infer 512 e (pairs_to α ts (length ts)))
   unfolding passes
   ran e {w} room h q =
       by_cases

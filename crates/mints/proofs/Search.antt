@@ -3,31 +3,26 @@
 use mathlib.Core.Path.{◌≡◌, sym, ap, ◌∙◌}
 use mathlib.Core.Bool.{Bool, true, false, cond}
 use mathlib.Core.List.{List}
-use Prim.Native.Nat.{ℕ, zero, suc, ◌+◌, ◌-◌, ◌*◌, ◌≤◌, ◌<◌}
+use Prim.Native.Nat.{ℕ, zero, suc, ◌+◌, ◌-◌, ◌≤◌, ◌<◌}
 use native.Mathlib.Numerals.{add-one}
 use native.Mathlib.Omega.{arith}
-use lib.ListN.{length, get_or, length-take, length-drop}
-use lib.Seq.{ext_get_or, get_or-take, get_or-drop}
+use lib.ListN.{length, get_or}
+use lib.Seq.{ext_get_or}
 use lib.Dec.{ltb}
 use Rattle.wire.specs.Same.{same}
 use Rattle.wire.proofs.Same.{same_refl, same-not-at}
-use Rattle.mints.specs.Bytes.{mint_width}
+use Rattle.mints.specs.declared.row.Row.{Row}
 use Rattle.mints.specs.Cells.{account_at, Fits, LastBytesSeen, first_row_from}
 use Rattle.mints.specs.Gather.{row_of_account}
 
-module _ (t k : List ℕ) where
-  account-byte : (i j : ℕ) → j < 32 → get_or (account_at t i) j 0 ≡ get_or t (i * mint_width + j) 0
-  account-byte i j h = rw (get_or-take, get_or-drop)
-
+module _ (t : List Row) (k : List ℕ) where
   -- every byte is the key's
-  pub account-is : (i : ℕ) → i * mint_width + 32 ≤ length t → length k ≡ 32 → ((j : ℕ) → j < 32 → get_or t (i * mint_width + j) 0 ≡ get_or k j 0) → same (account_at t i) k ≡ true
-  account-is i h e f =
-      let l : length (account_at t i) ≡ 32 = simp (length-take, length-drop) (omega arith) in
-      rw (ext_get_or 0 (account_at t i) k (l ∙ sym e) (λ j lt. account-byte i j (omega arith) ∙ f j (omega arith))) (same_refl k)
+  pub account-is : (i : ℕ) → length (account_at t i) ≡ 32 → length k ≡ 32 → ((j : ℕ) → j < 32 → get_or (account_at t i) j 0 ≡ get_or k j 0) → same (account_at t i) k ≡ true
+  account-is i l e f = rw (ext_get_or 0 (account_at t i) k (l ∙ sym e) (λ j lt. f j (omega arith))) (same_refl k)
 
   -- a byte is not
-  pub account-not : (i j : ℕ) → j < 32 → (get_or t (i * mint_width + j) 0 ≡ get_or k j 0 → ⊥) → same (account_at t i) k ≡ false
-  account-not i j h f = same-not-at (account_at t i) k j (λ e. f (sym (account-byte i j h) ∙ e))
+  pub account-not : (i j : ℕ) → (get_or (account_at t i) j 0 ≡ get_or k j 0 → ⊥) → same (account_at t i) k ≡ false
+  account-not i j f = same-not-at (account_at t i) k j f
 
   pub skip : (n i : ℕ) → i < n → same (account_at t i) k ≡ false → first_row_from t k (n - (i + 1)) (i + 1) ≡ first_row_from t k (n - i) i
   unfolding first_row_from
@@ -66,14 +61,14 @@ module _ (t k : List ℕ) where
   -- no row's account ends in the key's last byte
   pub unended : (n : ℕ) (ends : List ℕ) → LastBytesSeen t n ends → get_or ends (get_or k 31 0) 0 ≡ 0 → first_row_from t k n 0 ≡ n
   unended n ends f e =
-      missed n 0 (λ r a b. account-not r 31 (omega arith) (λ q. f r (omega arith) (ap (λ (x : ℕ). get_or ends x 0) q ∙ e))) ∙ omega arith
+      missed n 0 (λ r a b. account-not r 31 (λ q. f r (omega arith) (ap (λ (x : ℕ). get_or ends x 0) q ∙ e))) ∙ omega arith
 
--- row 0 is whole if any row is
-pub row_fits : (t row accounts : List ℕ) (i : ℕ) → Fits t row → row_of_account row accounts i * mint_width + mint_width ≤ length t
+-- row 0 is there if any row is
+pub row_fits : (t : List Row) (row accounts : List ℕ) (i : ℕ) → Fits t row → row_of_account row accounts i < length t
 unfolding row_of_account
 row_fits t row accounts i f = go (ltb i (length accounts))
   where
-    go : (b : Bool) → cond b (get_or row (get_or accounts i 0) 0) 0 * mint_width + mint_width ≤ length t
+    go : (b : Bool) → cond b (get_or row (get_or accounts i 0) 0) 0 < length t
     go true = f (get_or accounts i 0)
     go false = omega (arith, f 0)
 

@@ -6,11 +6,11 @@ use native.Mathlib.Decide.{dec_lt}
 use mathlib.Core.Bool.{Bool, true, false, cond, false≢true}
 use mathlib.Core.List.Memᴰ
 use mathlib.Core.List.{List, [], ◌∷◌, Memᴰ}
-use Prim.Native.Nat.{ℕ, zero, suc, ◌+◌, ◌*◌, ◌≤◌, ◌<◌}
+use Prim.Native.Nat.{ℕ, zero, suc, ◌+◌, ◌≤◌, ◌<◌}
 use native.Mathlib.Nat.{not-suc-le-zero, le_of_suc-le-suc, eq-or-lt_of_le}
 use native.Mathlib.Numerals.{add-one}
 use native.Mathlib.Omega.{arith}
-use borrow.Author.Tests.{ltb-true, lt-ltb, le-ltb}
+use borrow.Author.Tests.{ltb-true, lt-ltb}
 use lib.Dec.{ltb}
 use lib.ListN.{length, get_or, take, length-append, length-take, length-drop, get_or-eq_default}
 use lib.Seq.{get_or-take}
@@ -18,15 +18,15 @@ use Rattle.wire.specs.Order.{lt_key, Below}
 use Rattle.wire.proofs.Order.{below-trans, Order, order, less, level, more, lt_key-below, lt_key-above, lt_key-true}
 use Rattle.wire.proofs.Ascending.{put-mem, mem-put}
 use Rattle.ids.specs.Keys.{Key}
-use Rattle.mints.specs.Bytes.{mint_width}
+use Rattle.mints.specs.declared.row.Row.{Row}
 use Rattle.mints.specs.Cells.{account_at, state_at, Fits}
 use Rattle.mints.specs.Order.{spot_in, Rising, rising_nil, rising_cons, put_in, sort_to}
 
 -- a row number among the first k
-pub fit_at : (t o : List ℕ) (k j : ℕ) → j < k → Fits t (take k o) → get_or o j 0 * mint_width + mint_width ≤ length t
+pub fit_at : (t : List Row) (o : List ℕ) (k j : ℕ) → j < k → Fits t (take k o) → get_or o j 0 < length t
 fit_at t o k j h f = rw (get_or-take k o j 0 h) at (f j)
 
-pub spot-bound : (t : List ℕ) (r : ℕ) (l : List ℕ) → spot_in t r l ≤ length l
+pub spot-bound : (t : List Row) (r : ℕ) (l : List ℕ) → spot_in t r l ≤ length l
 unfolding spot_in
 spot-bound t r [] = omega arith
 spot-bound t r (q ∷ l) = go (lt_key (account_at t r) (account_at t q)) (spot-bound t r l)
@@ -36,7 +36,7 @@ spot-bound t r (q ∷ l) = go (lt_key (account_at t r) (account_at t q)) (spot-b
     go false h = omega arith
 
 -- the rows before the place of a row do not have a greater account, and the row at the place does
-pub spot-before : (t : List ℕ) (r : ℕ) (l : List ℕ) (i : ℕ) → i < spot_in t r l → lt_key (account_at t r) (account_at t (get_or l i 0)) ≡ false
+pub spot-before : (t : List Row) (r : ℕ) (l : List ℕ) (i : ℕ) → i < spot_in t r l → lt_key (account_at t r) (account_at t (get_or l i 0)) ≡ false
 unfolding spot_in
 spot-before t r [] i h = absurd (omega arith)
 spot-before t r (q ∷ l) i h = go (lt_key (account_at t r) (account_at t q)) refl i h (λ k. spot-before t r l k)
@@ -46,7 +46,7 @@ spot-before t r (q ∷ l) i h = go (lt_key (account_at t r) (account_at t q)) re
     go false e zero h f = e
     go false e (suc i) h f = f i (omega arith)
 
-pub spot-at : (t : List ℕ) (r : ℕ) (l : List ℕ) → spot_in t r l < length l → lt_key (account_at t r) (account_at t (get_or l (spot_in t r l) 0)) ≡ true
+pub spot-at : (t : List Row) (r : ℕ) (l : List ℕ) → spot_in t r l < length l → lt_key (account_at t r) (account_at t (get_or l (spot_in t r l) 0)) ≡ true
 unfolding spot_in
 spot-at t r [] h = absurd (omega arith)
 spot-at t r (q ∷ l) h = go (lt_key (account_at t r) (account_at t q)) refl h (λ k. spot-at t r l k)
@@ -69,7 +69,7 @@ below-others a b c e f = go (order c b)
     go (level q) = rw q (lt_key-true a b e)
     go (more h) = below-trans (lt_key-true a b e) h
 
-module _ (t : List ℕ) (r : ℕ) where
+module _ (t : List Row) (r : ℕ) where
   -- a row with a greater account is not before the place
   pub spot-low : (l : List ℕ) (i : ℕ) → lt_key (account_at t r) (account_at t (get_or l i 0)) ≡ true → spot_in t r l ≤ i
   spot-low l i e =
@@ -111,14 +111,14 @@ module _ (t : List ℕ) (r : ℕ) where
 pub put-length : (l : List ℕ) (j r : ℕ) → j ≤ length l → length (put_in l j r) ≡ suc (length l)
 put-length l j r h = simp (length-append, length-take, length-drop) (omega arith)
 
-module _ (t : List ℕ) where
-  pub sort-skip : (r : ℕ) → state_at t r ≤ 1 → sort_to t (r + 1) ≡ sort_to t r
+module _ (t : List Row) where
+  pub sort-skip : (r : ℕ) → ltb 1 (state_at t r) ≡ false → sort_to t (r + 1) ≡ sort_to t r
   unfolding sort_to
-  sort-skip r h = rw (add-one r, le-ltb _ _ h)
+  sort-skip r h = rw (add-one r, h)
 
-  pub sort-next : (r : ℕ) → 1 < state_at t r → sort_to t (r + 1) ≡ put_in (sort_to t r) (spot_in t r (sort_to t r)) r
+  pub sort-next : (r : ℕ) → ltb 1 (state_at t r) ≡ true → sort_to t (r + 1) ≡ put_in (sort_to t r) (spot_in t r (sort_to t r)) r
   unfolding sort_to
-  sort-next r h = rw (add-one r, lt-ltb _ _ h)
+  sort-next r h = rw (add-one r, h)
 
   -- the ordered rows are those with a mint
   pub sorted-mem : {q : ℕ} (n : ℕ) → Memᴰ q (sort_to t n) → (q < n) × (1 < state_at t q)
@@ -152,7 +152,7 @@ module _ (t : List ℕ) where
       go false e (inr k) f = f k
 
 -- the ordered rows are whole
-pub sort-fits : (t : List ℕ) (n : ℕ) → n * mint_width ≤ length t → mint_width ≤ length t → Fits t (sort_to t n)
+pub sort-fits : (t : List Row) (n : ℕ) → n ≤ length t → 0 < length t → Fits t (sort_to t n)
 sort-fits t n h k i =
     by_cases
     (dec_lt i (length (sort_to t n)))
@@ -160,7 +160,7 @@ sort-fits t n h k i =
     (λ (l : ¬ (i < length (sort_to t n))). rw (get_or-eq_default (sort_to t n) 0 {n = i} (omega arith)) (omega arith))
 
 -- and ascend
-pub sort-rising : (t : List ℕ) (n : ℕ) → Rising t (sort_to t n)
+pub sort-rising : (t : List Row) (n : ℕ) → Rising t (sort_to t n)
 unfolding sort_to
 sort-rising t zero = rising_nil
 sort-rising t (suc r) = go (ltb 1 (state_at t r)) (sort-rising t r)
@@ -169,7 +169,7 @@ sort-rising t (suc r) = go (ltb 1 (state_at t r)) (sort-rising t r)
     go true s = rising-put t r s
     go false s = s
 
-pub sort-length : (t : List ℕ) (n : ℕ) → length (sort_to t n) ≤ n
+pub sort-length : (t : List Row) (n : ℕ) → length (sort_to t n) ≤ n
 unfolding sort_to
 sort-length t zero = omega arith
 sort-length t (suc r) = go (ltb 1 (state_at t r)) (sort-length t r) (put-length (sort_to t r) (spot_in t r (sort_to t r)) r (spot-bound t r (sort_to t r)))

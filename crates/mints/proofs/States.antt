@@ -1,16 +1,17 @@
--- The marks as states: what setting one changes, and what it leaves, since a mark is one byte of one row.
+-- The marks as states: what setting one changes, and what it leaves, since a mark is the state of one row.
 -- Assumes nothing.
-use mathlib.Core.Path.{◌≡◌, refl, sym}
+use mathlib.Core.Path.{◌≡◌, refl, sym, ◌∙◌}
 use mathlib.Core.Logic.{◌≢◌, by_cases}
 use mathlib.Core.Bool.{Bool, true, false, cond, ◌&&◌}
 use mathlib.Core.List.{List}
-use Prim.Native.Nat.{ℕ, ◌+◌, ◌*◌, ◌≤◌}
+use Prim.Native.Nat.{ℕ, ◌<◌}
 use native.Mathlib.Decide.{ℕ_discrete}
 use lib.Dec.{eqb, ltb}
 use lib.ListN.{length}
 use borrow.Author.Tests.{eq-eqb, ne_eqb}
-use Rattle.mints.specs.Bytes.{mint_width}
-use Rattle.mints.specs.Cells.{account_at, mint_at, state_at, with_state}
+use Rattle.mints.specs.declared.row.Row.{Row}
+use Rattle.mints.specs.declared.row.State.TheVariants.{Doubted}
+use Rattle.mints.specs.Cells.{number_of, account_at, mint_at, state_at, with_state}
 use Rattle.mints.specs.Doubt.{doubt_at}
 use Rattle.mints.proofs.Fields.{account-state, mint-state, state-here, state-other, length-state}
 
@@ -37,33 +38,37 @@ marked-mint s b = by_cases (ℕ_discrete s 3) (λ e. rw (e, marked-filled b) (go
 pub marked-still : (s : ℕ) → marked s false ≡ s
 marked-still s = by_cases (ℕ_discrete s 3) (λ e. rw (e, marked-filled false)) (λ n. marked_other s false n)
 
+number-doubted : number_of Doubted ≡ 4
+unfolding number_of
+number-doubted = refl
+
 -- a row that a transfer marks
-pub doubt-here : (w : List ℕ) (r : ℕ) → r * mint_width + mint_width ≤ length w → state_at (doubt_at w r) r ≡ marked (state_at w r) true
+pub doubt-here : (w : List Row) (r : ℕ) → r < length w → state_at (doubt_at w r) r ≡ marked (state_at w r) true
 unfolding doubt_at
 doubt-here w r h =
     by_cases
     (ℕ_discrete (state_at w r) 3)
-    (λ e. rw (eq-eqb _ _ e, state-here w r 4 h, e) (sym (marked-filled true)))
+    (λ e. rw (eq-eqb _ _ e, state-here w r Doubted h, e) (number-doubted ∙ sym (marked-filled true)))
     (λ n. rw (ne_eqb _ _ n) (sym (marked_other (state_at w r) true n)))
 
 -- what it leaves
-module _ (w : List ℕ) (r : ℕ) where
-  doubt-cases : (P : List ℕ → Type 0) → P (with_state w r 4) → P w → P (doubt_at w r)
+module _ (w : List Row) (r : ℕ) where
+  doubt-cases : (P : List Row → Type 0) → P (with_state w r Doubted) → P w → P (doubt_at w r)
   unfolding doubt_at
   doubt-cases P x y = go (eqb (state_at w r) 3)
     where
-      go : (b : Bool) → P (cond b (with_state w r 4) w)
+      go : (b : Bool) → P (cond b (with_state w r Doubted) w)
       go true = x
       go false = y
 
   pub doubt-other : (q : ℕ) → q ≢ r → state_at (doubt_at w r) q ≡ state_at w q
-  doubt-other q n = doubt-cases (λ (v : List ℕ). state_at v q ≡ state_at w q) (state-other w r 4 q n) refl
+  doubt-other q n = doubt-cases (λ (v : List Row). state_at v q ≡ state_at w q) (state-other w r Doubted q n) refl
 
   pub doubt-account : (q : ℕ) → account_at (doubt_at w r) q ≡ account_at w q
-  doubt-account q = doubt-cases (λ (v : List ℕ). account_at v q ≡ account_at w q) (account-state w r 4 q) refl
+  doubt-account q = doubt-cases (λ (v : List Row). account_at v q ≡ account_at w q) (account-state w r Doubted q) refl
 
   pub doubt-mint : (q : ℕ) → mint_at (doubt_at w r) q ≡ mint_at w q
-  doubt-mint q = doubt-cases (λ (v : List ℕ). mint_at v q ≡ mint_at w q) (mint-state w r 4 q) refl
+  doubt-mint q = doubt-cases (λ (v : List Row). mint_at v q ≡ mint_at w q) (mint-state w r Doubted q) refl
 
   pub doubt-length : length (doubt_at w r) ≡ length w
-  doubt-length = doubt-cases (λ (v : List ℕ). length v ≡ length w) (length-state w r 4) refl
+  doubt-length = doubt-cases (λ (v : List Row). length v ≡ length w) (length-state w r Doubted) refl

@@ -5,10 +5,10 @@ use mathlib.Core.Logic.{by_cases}
 use mathlib.Core.Bool.{or-true}
 use mathlib.Core.Option.{none, some}
 use mathlib.Core.List.{List, [], ◌∷◌, ◌++◌}
-use Prim.Native.Nat.{ℕ, zero, suc, ◌+◌, ◌*◌, ◌≤◌, ◌<◌}
+use Prim.Native.Nat.{ℕ, zero, suc, ◌+◌, ◌<◌}
 use native.Mathlib.Decide.{ℕ_discrete}
 use native.Mathlib.Omega.{arith}
-use lib.ListN.{length, length-take, length-drop}
+use lib.ListN.{length}
 use Rattle.wire.proofs.Same.{same-eq}
 use Rattle.ids.specs.Keys.{Key, zero_key, is_zero}
 use Rattle.evidence.specs.Table.{Table, add, lookup}
@@ -16,8 +16,9 @@ use Rattle.evidence.specs.Passes.{Transfers, step, pass}
 use Rattle.evidence.proofs.Passes.{length-add}
 use Rattle.evidence.proofs.Lookups.{add-here, add-other, step-zero, step-forth, step_back, step-known, step-unknown, step-ambiguous, step-ambiguous-back}
 use Rattle.evidence.proofs.Loops.{pass-append}
-use Rattle.mints.specs.Bytes.{mint_width}
-use Rattle.mints.specs.Cells.{mint_at, state_at, state_says}
+use Rattle.mints.specs.declared.row.Row.{Row}
+use Rattle.mints.specs.declared.row.State.TheVariants.{FilledIn}
+use Rattle.mints.specs.Cells.{number_of, mint_at, state_at, state_says}
 use Rattle.mints.specs.declared.pass.Transfer.{Transfer}
 use Rattle.mints.specs.Pass.{from_at, to_at, hand_at, step_at, filled_at, pass_to}
 use Rattle.mints.proofs.Passing as passing
@@ -25,23 +26,22 @@ use Rattle.mints.proofs.Fields.{mint-here, states-here}
 use Rattle.mints.proofs.Holding.{RowsApart, not-zero, HoldsRows, was, Was, changed-mint, update, keep}
 
 -- the table holds t, and what is recorded is r₀
-pub record Held (n : ℕ) (α : ℕ → Key) (r₀ : Table) (w : List ℕ) (t : Table) : Type 0 where
+pub record Held (n : ℕ) (α : ℕ → Key) (r₀ : Table) (w : List Row) (t : Table) : Type 0 where
   pub now : HoldsRows 3 n α w t
   pub then : Was n α w r₀
 
-module _ {n : ℕ} {α : ℕ → Key} {r₀ : Table} (p : RowsApart n α) {w : List ℕ} {t : Table} (h : Held n α r₀ w t) where
+module _ {n : ℕ} {α : ℕ → Key} {r₀ : Table} (p : RowsApart n α) {w : List Row} {t : Table} (h : Held n α r₀ w t) where
   -- a mint handed from row a to row b
   handed : (a b : ℕ) → 0 < b → a < n → b < n → state_at w b ≡ 0 → 1 < state_at w a → Held n α r₀ (hand_at w a b) (add t (α b) (mint_at w a)) × (length (add t (α b) (mint_at w a)) ≡ length t + 1)
-  unfolding state_says was
+  unfolding state_says was number_of
   handed a b z k l q o =
-      let e : length (mint_at w a) ≡ 32 = simp (length-take, length-drop) (omega (arith, h.now.long)) in
-      let f : b * mint_width + mint_width ≤ length w = omega (arith, h.now.long) in
-      let s = states-here w b (mint_at w a) e 3 f in
-      let m = mint-here w b (mint_at w a) e 3 f in
+      let f : b < length w = omega (arith, h.now.long) in
+      let s = states-here w b (mint_at w a) FilledIn f in
+      let m = mint-here w b (mint_at w a) FilledIn f in
       let g : lookup t (α b) ≡ none = h.now.said b z l ∙ rw q in (
         record {
-          now = update p h.now b z l (changed-mint w b (mint_at w a) 3 e) (λ c d. add-other t (mint_at w a) d) (add-here t (α b) (mint_at w a) g ∙ rw (s, m)) (λ _. rw m (h.now.mint a k o)) (omega (arith, s));
-          then = keep h.then b (changed-mint w b (mint_at w a) 3 e) (rw (s, q));
+          now = update p h.now b z l (changed-mint w b (mint_at w a) FilledIn) (λ c d. add-other t (mint_at w a) d) (add-here t (α b) (mint_at w a) g ∙ rw (s, m)) (λ _. rw m (h.now.mint a k o)) (omega (arith, s));
+          then = keep h.then b (changed-mint w b (mint_at w a) FilledIn) (rw (s, q));
         },
         length-add t (α b) (mint_at w a) ∙ omega arith,
       )
@@ -125,7 +125,7 @@ pairs_to α ts zero = []
 pairs_to α ts (suc i) = pairs_to α ts i ++ ((α (from_at ts i), α (to_at ts i)) ∷ [])
 
 -- a pass over row numbers is a pass over their accounts
-pub passed : {n : ℕ} {α : ℕ → Key} {r₀ : Table} → RowsApart n α → {w : List ℕ} {t : Table} → Held n α r₀ w t → (ts : List Transfer) → ((i : ℕ) → from_at ts i < n) → ((i : ℕ) → to_at ts i < n) → (i : ℕ)
+pub passed : {n : ℕ} {α : ℕ → Key} {r₀ : Table} → RowsApart n α → {w : List Row} {t : Table} → Held n α r₀ w t → (ts : List Transfer) → ((i : ℕ) → from_at ts i < n) → ((i : ℕ) → to_at ts i < n) → (i : ℕ)
     → Held n α r₀ (pass_to ts w i).table (pass t (pairs_to α ts i)) × (length (pass t (pairs_to α ts i)) ≡ length t + (pass_to ts w i).room)
 unfolding pass_to pairs_to pass
 passed p h ts a b zero = (h, omega arith)

@@ -15,13 +15,14 @@ use Rattle.evidence.specs.Passes.{Transfers, Joined}
 use Rattle.evidence.proofs.Infer.{Settled}
 use Rattle.evidence.proofs.Independence.{joined-flip}
 use Rattle.evidence.proofs.Doubts.{Doubtful, spreads}
+use Rattle.mints.specs.declared.row.Row.{Row}
 use Rattle.mints.specs.Doubt.{renamed, relabelled}
 use Rattle.mints.proofs.Labelling.{renamed-here, renamed-other, relabelled-length, relabelled-at}
 use Rattle.mints.proofs.Holding.{RowsApart}
 use Rattle.mints.proofs.Stepped.{Held}
 use Rattle.mints.proofs.Filled.{FilledIn, free, account}
 
-module _ {n : ℕ} {α : ℕ → Key} {e : Evidence} {ps : Transfers} {t : Table} (p : RowsApart n α) (s : Settled e ps t) {w : List ℕ} (h : Held n α (recorded e) w t) where
+module _ {n : ℕ} {α : ℕ → Key} {e : Evidence} {ps : Transfers} {t : Table} (p : RowsApart n α) (s : Settled e ps t) {w : List Row} (h : Held n α (recorded e) w t) where
   -- rows under one label are in doubt together, those under label 0 in any case
   pub record Together (l : List ℕ) : Type 0 where
     pub size : length l ≡ n

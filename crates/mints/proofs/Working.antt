@@ -12,6 +12,7 @@ use Rattle.pack.specs.Invocation.{instruction_at}
 use Rattle.evidence.specs.Evidence.{recorded}
 use Rattle.evidence.specs.MintTable.{MintAnswer}
 use Rattle.std.specs.Prelude.{Ok}
+use Rattle.mints.specs.declared.row.Row.{Row}
 use Rattle.mints.specs.declared.pass.Transfer.{Transfer}
 use Rattle.mints.specs.Pass.{EndsWithin, Ran}
 use Rattle.mints.specs.Cells.{Fits}
@@ -24,7 +25,6 @@ use Rattle.mints.specs.Inference.{inferred, inferred_in, answer_of, mint_bytes, 
 use Rattle.mints.proofs.Written.{cell, cells-bytes}
 use Rattle.mints.proofs.Collected.{Collected, count-bound, taken-within}
 use Rattle.mints.proofs.Gathering.{two-at-most}
-use Rattle.mints.specs.Bytes.{mint_width}
 use Rattle.mints.proofs.Preparing.{rows-laid, laid-index, laid-fits, balances-bound}
 use Rattle.mints.proofs.Prepared.{evidence_in, transfers_in, accounts, apart, prepared}
 use Rattle.mints.proofs.Right.{Right, too_many, made, right}
@@ -44,14 +44,14 @@ all_noted : (ks b p o : List ℕ) → (gathered_of ks b p o).noted.room ≤ leng
 unfolding gathered_of
 all_noted ks b p o = omega (arith, room_bound ks p o (laid_of ks).row (begun ks b) (length o), balances-bound b (laid_of ks).row (laid_of ks).table (length b / 36))
 
-module _ (ks b p o : List ℕ) (few : key_count ks ≤ 256) (short : length o ≤ 1024) {t : List ℕ} {ts : List Transfer} {room count : ℕ} (e : gathered_of ks b p o ≡ record { noted = record { table = t; room = room }; transfers = ts; count = count }) where
+module _ (ks b p o : List ℕ) (few : key_count ks ≤ 256) (short : length o ≤ 1024) {t : List Row} {ts : List Transfer} {room count : ℕ} (e : gathered_of ks b p o ≡ record { noted = record { table = t; room = room }; transfers = ts; count = count }) where
   state : Collected (laid_of ks).rows (accounts ks b p o few short) 1024 (record { noted = record { table = t; room = room }; transfers = ts; count = count }) (recorded (evidence_in ks b p o few short)) (transfers_in ks b p o few short)
   state = subst (λ (x : Gathered). Collected (laid_of ks).rows (accounts ks b p o few short) 1024 x (recorded (evidence_in ks b p o few short)) (transfers_in ks b p o few short)) e (prepared ks b p o few short)
 
   pub transfers-within : EndsWithin (laid_of ks).rows (take count ts)
   transfers-within = taken-within (laid_of ks).rows ts count (apart ks b p o few short).some_row state.ends
 
-  pub rows_long : (laid_of ks).rows * mint_width ≤ length t
+  pub rows_long : (laid_of ks).rows ≤ length t
   rows_long = state.notes.holds.long
 
   pub counted : (count ≤ 1024) × (count ≤ length ts)
@@ -65,7 +65,7 @@ module _ (ks b p o : List ℕ) (few : key_count ks ≤ 256) (short : length o �
       omega arith
 
   -- and what handing on comes to
-  pub concluded-is : {v r : List ℕ} {rows : ℕ} {x : Ran} → laid_of ks ≡ record { table = v; row = r; rows = rows }
+  pub concluded-is : {v : List Row} {r : List ℕ} {rows : ℕ} {x : Ran} → laid_of ks ≡ record { table = v; row = r; rows = rows }
       → handed_on (take count ts) t rows room ≡ x
       → concluded ks b p o ≡ record { table = x.table; row = r; rows = rows; room = x.room; passes = x.passes }
   unfolding concluded
@@ -77,7 +77,7 @@ module _ (ks b p o : List ℕ) (few : key_count ks ≤ 256) where
   unfolding concluded
   concluded-rows = omega (arith, (rows-laid ks few).few)
 
-  pub concluded-fits : (t : List ℕ) → length t ≡ 257 * mint_width → Fits t (concluded ks b p o).row
+  pub concluded-fits : (t : List Row) → length t ≡ 257 → Fits t (concluded ks b p o).row
   unfolding concluded
   concluded-fits t w = laid-fits ks few t w
 

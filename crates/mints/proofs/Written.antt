@@ -7,12 +7,11 @@ use mathlib.Core.Bool.{Bool, true, false, cond, false≢true}
 use mathlib.Core.Option.{none, some, none-ne-some, some-injective}
 use mathlib.Core.List.Memᴰ
 use mathlib.Core.List.{List, [], ◌∷◌, map, Memᴰ}
-use Prim.Native.Nat.{ℕ, zero, suc, ◌-◌, ◌*◌, ◌≤◌, ◌<◌}
+use Prim.Native.Nat.{ℕ, zero, suc, ◌-◌, ◌≤◌, ◌<◌}
 use native.Mathlib.Decide.{ℕ_discrete}
 use native.Mathlib.Omega.{arith}
 use lib.Dec.{eqb, ltb}
-use lib.ListN.{get_or, drop}
-use lib.Seq.{take-add, drop-drop}
+use lib.ListN.{get_or}
 use borrow.Author.Tests.{eq-eqb, eqb-true, lt-ltb, ltb-true}
 use Rattle.wire.specs.Order.{Below}
 use Rattle.wire.proofs.Order.{lt_key-true, lt_key-false}
@@ -32,9 +31,10 @@ use Rattle.evidence.proofs.Doubts.{doubtful-mark, sure-mark}
 use Rattle.evidence.specs.MintTable.{MintRow, mint_table, mint_in}
 use Rattle.evidence.proofs.MintTable.{table-mint}
 use Rattle.evidence.proofs.Written as theory
+use Rattle.mints.specs.declared.row.Row.{Row}
 use Rattle.mints.specs.Cells.{account_at, mint_at, state_at, state_says}
 use Rattle.mints.specs.Order.{spot_in, put_in, sort_to, row_bytes, rows_bytes, shown_mint, mints_to}
-use Rattle.mints.specs.Bytes.{mint_width, table_bytes, or_zero, mints_of}
+use Rattle.mints.specs.Bytes.{table_bytes, or_zero, mints_of}
 use Rattle.mints.proofs.Sorting.{spot-bound, spot-before, spot-at, sorted-mem, mem-sorted, get_or-mem}
 use Rattle.mints.proofs.Holding.{RowsApart, was}
 use Rattle.mints.proofs.Stepped.{Held}
@@ -43,7 +43,7 @@ use Rattle.mints.proofs.Filled.{final-row}
 use Rattle.mints.proofs.Marked.{Marked, has-mint}
 
 -- rows with different accounts are put in order
-pub ascends : (t : List ℕ) (n : ℕ) → ((r q : ℕ) → r < n → q < n → account_at t r ≡ account_at t q → r ≡ q) → Ascending (account_at t) (sort_to t n)
+pub ascends : (t : List Row) (n : ℕ) → ((r q : ℕ) → r < n → q < n → account_at t r ≡ account_at t q → r ≡ q) → Ascending (account_at t) (sort_to t n)
 unfolding sort_to
 ascends t zero apart = asc_nil
 ascends t (suc n) apart = go (ltb 1 (state_at t n)) (ascends t n (λ r q h k. apart r q (omega arith) (omega arith)))
@@ -61,19 +61,19 @@ ascends t (suc n) apart = go (ltb 1 (state_at t n)) (ascends t n (λ r q h k. ap
     go true a = ascending-put n 0 (spot_in t n (sort_to t n)) a (spot-bound t n (sort_to t n)) (λ i h. below i h) (λ h. lt_key-true (account_at t n) (account_at t (get_or (sort_to t n) (spot_in t n (sort_to t n)) 0)) (spot-at t n (sort_to t n) h))
 
 -- a row of the working table as a row of the mint table
-pub cell : List ℕ → ℕ → MintRow
+pub cell : List Row → ℕ → MintRow
 cell t r = (account_at t r, mint_at t r, state_at t r - 2)
 
 row-eq : {a b m k : Key} {i j : ℕ} → a ≡ b → m ≡ k → i ≡ j → ◌≡◌ {A = MintRow} (a, m, i) (b, k, j)
 row-eq e f g = rw (e, f, g)
 
 -- and as bytes
-pub cells-bytes : (t l : List ℕ) → rows_bytes t l ≡ table_bytes (map (cell t) l)
+pub cells-bytes : (t : List Row) (l : List ℕ) → rows_bytes t l ≡ table_bytes (map (cell t) l)
 unfolding rows_bytes row_bytes table_bytes cell
 cells-bytes t [] = refl
-cells-bytes t (r ∷ l) = rw (cells-bytes t l, take-add 32 32 (drop (r * mint_width) t), drop-drop 32 (r * mint_width) t)
+cells-bytes t (r ∷ l) = rw (cells-bytes t l) refl
 
-module _ {n : ℕ} {α : ℕ → Key} {e : Evidence} {ps : Transfers} {t : Table} (p : RowsApart n α) (s : Settled e ps t) {w v : List ℕ} (h : Held n α (recorded e) w t) (m : Marked n α e ps t w v) where
+module _ {n : ℕ} {α : ℕ → Key} {e : Evidence} {ps : Transfers} {t : Table} (p : RowsApart n α) (s : Settled e ps t) {w v : List Row} (h : Held n α (recorded e) w t) (m : Marked n α e ps t w v) where
   account-is : (r : ℕ) → r < n → account_at v r ≡ α r
   account-is r k = m.account r ∙ h.now.account r k
 

@@ -2,12 +2,13 @@
 -- Assumes nothing.
 use Rattle.std.specs.Prelude.{ℕ, List, take}
 use Rattle.std.proofs.Math.Option.{Option}
+use Rattle.mints.specs.declared.row.Row.{Row}
 use Rattle.mints.specs.Doubt.{handed_on}
 use Rattle.mints.specs.Prepare.{laid_of, gathered_of}
 
 pub record Concluded : Type 0 where
   -- the table, final unless the passes are too many
-  pub table : List ℕ
+  pub table : List Row
   -- the row of each key index
   pub row : List ℕ
   -- how many rows there are

@@ -9,6 +9,7 @@ use Rattle.token.specs.declared.Token.{Token}
 use Rattle.token.specs.declared.Token.TheVariants.{Initialise, Plain, Checked, WithFee}
 use Rattle.mints.specs.Note.{Noted, note_at}
 use Rattle.mints.specs.declared.pass.Transfer.{Transfer}
+use Rattle.mints.specs.declared.row.Row.{Row}
 
 -- the row of an instruction's account i: row 0, the zero key's, where there is none
 unfoldable pub row_of_account : List ℕ → List ℕ → ℕ → ℕ
@@ -65,6 +66,6 @@ gather_to ks p offsets row g (suc i) =
     gather_at (key_of ks) row (token_at ks p (get_or offsets i 0)) (instruction_at p (get_or offsets i 0)).accounts (gather_to ks p offsets row g i)
 
 -- all instructions, when nothing is counted yet: t is the table, ts is to hold the transfers
-abbrev pub gather_all : List ℕ → List ℕ → List ℕ → List ℕ → List ℕ → List Transfer → Gathered
+abbrev pub gather_all : List ℕ → List ℕ → List ℕ → List ℕ → List Row → List Transfer → Gathered
 gather_all ks p offsets row t ts =
     gather_to ks p offsets row (record { noted = record { table = t; room = 0 }; transfers = ts; count = 0 }) (length offsets)

@@ -2,29 +2,24 @@
 //
 // Chains that reach a filled-in account reach every other that transfers between filled-in accounts join to it, so these are in doubt together. They bear one
 // label; label 0 tells doubt. One walk over the transfers sets the labels, and one over the rows the marks.
-ghost use Rattle.std.specs.Prelude.{◌≡◌, ◌+◌, ◌*◌, ◌≤◌, ◌<◌, length, MatchResult};
+ghost use Rattle.std.specs.Prelude.{◌≡◌, ◌≤◌, ◌<◌, length, MatchResult};
 ghost use Rattle.std.proofs.Math.Option.{none, some};
-ghost use Rattle.mints.specs.Bytes.{mint_width};
 ghost use Rattle.mints.specs.Pass.{EndsWithin};
 ghost use Rattle.mints.specs.Doubt.{differ_at, own_labels, renamed, relabelled, join_at, suspect_at, meet_at, labels_to, doubt_at, marks_to, doubts_of, handed_on};
 
 use crate::pass::{Ran, Transfer};
-use crate::{TooManyPasses, WIDTH, pass};
+use crate::row::{Row, State};
+use crate::{TooManyPasses, pass};
 
 // Whether both rows have a mint, and different ones.
-fn differ(table: &[u8], a: usize, b: usize) -> bool
-    requires { (a * mint_width + mint_width ≤ length table.now) × (b * mint_width + mint_width ≤ length table.now) }
+#[tactic(auto, unfolding(crate::specs::Doubt::differ_at))]
+fn differ(table: &[Row], a: usize, b: usize) -> bool
+    requires { (a < length table.now) × (b < length table.now) }
     ensures { result ≡ differ_at table.now a b }
 {
-    if table[a * WIDTH + 64] <= 1 {
-        return false;
-    }
-    if table[b * WIDTH + 64] <= 1 {
-        return false;
-    }
-    let x = a * WIDTH + 32;
-    let y = b * WIDTH + 32;
-    !wire::equal(&table[x..x + 32], &table[y..y + 32])
+    table[a].state.has_mint()
+        && table[b].state.has_mint()
+        && !wire::equal(table[a].mint(), table[b].mint())
 }
 
 // Gives each row a label of its own, its number.
@@ -32,12 +27,13 @@ fn label_apart(label: &mut [u32])
     requires { length label.old ≤ 65536 }
     ensures { label.new ≡ own_labels (length label.old) }
 {
-    for r in 0..label.len() {
-        label[r] = r as u32;
+    for (r, l) in label.iter_mut().enumerate() {
+        *l = r as u32;
     }
 }
 
 // A label, or y in the place of x.
+#[tactic(auto, unfolding(crate::specs::Doubt::renamed))]
 fn rename(z: u32, x: u32, y: u32) -> u32
     ensures { result ≡ renamed x y z }
 {
@@ -57,6 +53,7 @@ fn relabel(label: &mut [u32], x: u32, y: u32)
 }
 
 // Joins two rows: the greater of their labels becomes the lesser, so that doubt stays.
+#[tactic(auto, unfolding(crate::specs::Doubt::join_at))]
 fn join(label: &mut [u32], a: usize, b: usize)
     requires { (a < length label.old) × (b < length label.old) }
     ensures { label.new ≡ join_at label.old a b }
@@ -65,45 +62,40 @@ fn join(label: &mut [u32], a: usize, b: usize)
     let y = label[b];
     if x < y {
         relabel(label, y, x);
-        return;
+    } else {
+        relabel(label, x, y);
     }
-    relabel(label, x, y);
 }
 
 // Puts a row in doubt if it is filled in, and all that are joined to it.
-fn suspect(table: &[u8], label: &mut [u32], r: usize)
-    requires { (r < length label.old) × (length label.old * mint_width ≤ length table.now) }
+#[tactic(auto, unfolding(crate::specs::Doubt::suspect_at))]
+fn suspect(table: &[Row], label: &mut [u32], r: usize)
+    requires { (r < length label.old) × (length label.old ≤ length table.now) }
     ensures { label.new ≡ suspect_at table.now label.old r }
 {
-    if table[r * WIDTH + 64] != 3 {
-        return;
+    if table[r].state.is_filled_in() {
+        let x = label[r];
+        relabel(label, x, 0);
     }
-    let x = label[r];
-    relabel(label, x, 0);
 }
 
 // One transfer: doubt begins where its ends have different mints; else it joins them if both are filled in.
-fn meet(table: &[u8], label: &mut [u32], a: usize, b: usize)
-    requires { (a < length label.old) × (b < length label.old) × (length label.old * mint_width ≤ length table.now) }
+#[tactic(auto, unfolding(crate::specs::Doubt::meet_at))]
+fn meet(table: &[Row], label: &mut [u32], a: usize, b: usize)
+    requires { (a < length label.old) × (b < length label.old) × (length label.old ≤ length table.now) }
     ensures { label.new ≡ meet_at table.now label.old a b }
 {
     if differ(table, a, b) {
         suspect(table, label, a);
         suspect(table, label, b);
-        return;
+    } else if table[a].state.is_filled_in() && table[b].state.is_filled_in() {
+        join(label, a, b);
     }
-    if table[a * WIDTH + 64] != 3 {
-        return;
-    }
-    if table[b * WIDTH + 64] != 3 {
-        return;
-    }
-    join(label, a, b);
 }
 
 // Sets the labels by the transfers.
-fn meet_all(table: &[u8], label: &mut [u32], transfers: &[Transfer])
-    requires { EndsWithin (length label.old) transfers.now × (length label.old * mint_width ≤ length table.now) }
+fn meet_all(table: &[Row], label: &mut [u32], transfers: &[Transfer])
+    requires { EndsWithin (length label.old) transfers.now × (length label.old ≤ length table.now) }
     ensures { label.new ≡ labels_to transfers.now table.now label.old (length transfers.now) }
 {
     for transfer in transfers {
@@ -112,18 +104,19 @@ fn meet_all(table: &[u8], label: &mut [u32], transfers: &[Transfer])
 }
 
 // Marks a row that is filled in.
-fn doubt(table: &mut [u8], r: usize)
-    requires { r * mint_width + mint_width ≤ length table.old }
+#[tactic(auto, unfolding(crate::specs::Doubt::doubt_at, crate::specs::Cells::with_state))]
+fn doubt(table: &mut [Row], r: usize)
+    requires { r < length table.old }
     ensures { table.new ≡ doubt_at table.old r }
 {
-    if table[r * WIDTH + 64] == 3 {
-        table[r * WIDTH + 64] = 4;
+    if table[r].state.is_filled_in() {
+        table[r].state = State::Doubted;
     }
 }
 
 // Marks the filled-in rows under label 0.
-fn mark(table: &mut [u8], label: &[u32])
-    requires { length label.now * mint_width ≤ length table.old }
+fn mark(table: &mut [Row], label: &[u32])
+    requires { length label.now ≤ length table.old }
     ensures { table.new ≡ marks_to table.old label.now (length label.now) }
 {
     for r in 0..label.len() {
@@ -134,8 +127,8 @@ fn mark(table: &mut [u8], label: &[u32])
 }
 
 // Marks the rows that the transfers put in doubt; whatever `label` holds, it has their labels then.
-fn doubts_with(table: &mut [u8], label: &mut [u32], transfers: &[Transfer])
-    requires { EndsWithin (length label.old) transfers.now × (length label.old * mint_width ≤ length table.old) × (length label.old ≤ 65536) }
+fn doubts_with(table: &mut [Row], label: &mut [u32], transfers: &[Transfer])
+    requires { EndsWithin (length label.old) transfers.now × (length label.old ≤ length table.old) × (length label.old ≤ 65536) }
     ensures { table.new ≡ doubts_of transfers.now table.old (length label.old) }
 {
     label_apart(label);
@@ -145,13 +138,13 @@ fn doubts_with(table: &mut [u8], label: &mut [u32], transfers: &[Transfer])
 
 // The passes, and then the marks of the rows, where the passes are not too many.
 pub(crate) fn hand_on(
-    table: &mut [u8],
+    table: &mut [Row],
     rows: usize,
     transfers: &[Transfer],
     recorded: usize,
 ) -> Result<Ran, TooManyPasses>
     requires bounds { (length transfers.now ≤ 1024) × (recorded ≤ 1152921504606846976) × (rows ≤ 257) }
-    requires rows_in_bounds { (rows * mint_width ≤ length table.old) × EndsWithin rows transfers.now }
+    requires rows_in_bounds { (rows ≤ length table.old) × EndsWithin rows transfers.now }
     ensures { MatchResult result
         (λ ran. handed_on transfers.now table.entry.now rows recorded ≡ record { table = table.exit.now; room = ran.room; passes = some ran.passes })
         (λ _. (handed_on transfers.now table.entry.now rows recorded).passes ≡ none) }

@@ -4,12 +4,11 @@
 // key index, and each invocation's program. Each key is searched once, in a linear table; evidence, passes, marks and lookups go by row numbers.
 #![tactic(auto)]
 
-ghost use Rattle.std.specs.Prelude.{◌≡◌, ◌*◌, ◌≤◌, length, take, MatchResult};
+ghost use Rattle.std.specs.Prelude.{◌≡◌, ◌≤◌, length, replicate, take, MatchResult};
 ghost use Rattle.std.proofs.lemmas.List.Edits.{sets};
 ghost use Rattle.std.proofs.Math.Option.{none, some};
 ghost use Rattle.wire.specs.Zeros.{zeros};
-ghost use Rattle.mints.specs.Bytes.{mint_width};
-ghost use Rattle.mints.specs.Cells.{Fits};
+ghost use Rattle.mints.specs.Cells.{blank_row, Fits};
 ghost use Rattle.mints.specs.Programs.{programs_of};
 ghost use Rattle.mints.specs.Conclude.{concluded};
 ghost use Rattle.mints.specs.Order.{sort_to, rows_bytes, mints_to};
@@ -19,12 +18,14 @@ mod doubt;
 mod notes;
 mod order;
 mod pass;
+mod row;
 mod table;
 
 use ids::Id;
 use pass::Transfer;
+use row::Row;
 
-// The bytes of a row of table 0, and of the working table, whose rows have a state in the place of the mark.
+// The bytes of a row of table 0.
 pub const WIDTH: usize = 65;
 
 // The room that table 0 needs, its rows, and the passes.
@@ -54,11 +55,11 @@ fn conclude(
     balances: &[u8],
     pack: &[u8],
     at: &[u32],
-    table: &mut [u8],
+    table: &mut [Row],
     row: &mut [u32],
     programs: &mut [Id; 1024],
 ) -> Result<Concluded, TooManyPasses>
-    requires { (length keys.now ≤ 8448) × (length at.now ≤ 1024) × (table.old ≡ zeros (257 * mint_width)) × (row.old ≡ zeros 256) }
+    requires { (length keys.now ≤ 8448) × (length at.now ≤ 1024) × (table.old ≡ replicate 257 blank_row) × (row.old ≡ zeros 256) }
     ensures value { MatchResult result
         (λ x. concluded keys.now balances.now pack.now at.now ≡ record { table = table.exit.now; row = row.new; rows = x.rows; room = x.room; passes = some x.passes })
         (λ _. (concluded keys.now balances.now pack.now at.now).passes ≡ none) }
@@ -78,14 +79,14 @@ fn conclude(
 
 // Writes the rows with a mint, ascending, and the mints of the first n key indexes; answers how many rows.
 fn publish(
-    table: &[u8],
+    table: &[Row],
     rows: usize,
     row: &[u32],
     n: usize,
     out: &mut [u8],
     known: &mut [u8],
 ) -> usize
-    requires rows_bound { (rows ≤ 257) × (n ≤ length row.now) × (n ≤ 256) × (length table.now ≡ 257 * mint_width) × Fits table.now row.now }
+    requires rows_bound { (rows ≤ 257) × (n ≤ length row.now) × (n ≤ 256) × (length table.now ≡ 257) × Fits table.now row.now }
     requires known_value { known.old ≡ zeros (length known.old) }
     ensures value { result ≡ length (sort_to table.now rows) }
     ensures out_after { out.new ≡ sets out.old 0 (rows_bytes table.now (sort_to table.now rows)) }
@@ -135,7 +136,7 @@ pub fn infer(
     *known = [0u8; 8192];
     let keys = first_keys(keys);
     let at = first_offsets(at);
-    let mut table = [0u8; 257 * WIDTH];
+    let mut table = [Row::BLANK; 257];
     let mut row = [0u32; 256];
     let done = conclude(keys, balances, pack, at, &mut table, &mut row, programs)?;
     let k = publish(&table, done.rows, &row, ids::key_count(keys), rows, known);

@@ -1,16 +1,15 @@
 // Evidence into the table: a first mint is recorded, another one makes the account ambiguous for good.
-ghost use Rattle.std.specs.Prelude.{◌≡◌, suc, ◌+◌, ◌*◌, ◌/◌, ◌≤◌, ◌<◌, cond, ltb, length, get_or, set};
+ghost use Rattle.std.specs.Prelude.{◌≡◌, suc, ◌/◌, ◌≤◌, ◌<◌, cond, ltb, length, get_or, set};
 ghost use Rattle.std.proofs.lemmas.List.Edits.{sets};
 ghost use Rattle.wire.specs.Same.{same};
 ghost use Rattle.ids.specs.Keys.{zero_key, key_at, key_count, key_of};
-ghost use Rattle.mints.specs.Bytes.{mint_width};
 ghost use Rattle.mints.specs.Cells.{Fits};
 ghost use Rattle.mints.specs.Gather.{row_of_account, note_account, observed, is_plain, transfer_of, gather_all};
 ghost use Rattle.mints.specs.Note.{record_at, new_at, balances_to};
 ghost use Rattle.mints.specs.Programs.{programs_of};
 
-use crate::WIDTH;
 use crate::pass::Transfer;
+use crate::row::{Row, State};
 use ids::Id;
 use token::Token;
 
@@ -18,52 +17,40 @@ use token::Token;
 pub(crate) fn row_of(row: &[u32], index: usize) -> usize
     ensures { result ≡ get_or row.now index 0 }
 {
-    if index < row.len() {
-        row[index] as usize
-    } else {
-        0
-    }
+    row.get(index).map_or(0, |r| *r as usize)
 }
 
 // Whether a mint is the zero key, which is none.
+#[tactic(auto, unfolding(ids::specs::Keys::zero_key))]
 fn is_zero(mint: &[u8]) -> bool
     ensures { result ≡ same mint.now zero_key }
 {
-    let blank = [0u8; 32];
-    wire::equal(mint, &blank)
+    wire::equal(mint, &[0u8; 32])
 }
 
 // Records a mint in a row; answers how many accounts more are recorded.
-pub(crate) fn note(table: &mut [u8], r: usize, mint: &[u8]) -> usize
-    requires { (length mint.now ≡ 32) × (r * mint_width + mint_width ≤ length table.old) }
+#[tactic(auto, unfolding(crate::specs::Note::record_at, crate::specs::Note::new_at, crate::specs::Cells::number_of, crate::specs::Cells::with_mint, crate::specs::Cells::with_state))]
+pub(crate) fn note(table: &mut [Row], r: usize, mint: &[u8]) -> usize
+    requires { (length mint.now ≡ 32) × (r < length table.old) }
     ensures { (table.new ≡ record_at table.old r mint.now) × (result ≡ new_at table.old r mint.now) }
 {
-    let state = table[r * WIDTH + 64];
-    if state == 0 {
-        if is_zero(mint) {
-            return 0;
+    match table[r].state {
+        State::Unknown if !is_zero(mint) => {
+            table[r].mint.copy_from_slice(mint);
+            table[r].state = State::Recorded;
+            1
         }
-        wire::put(table, r * WIDTH + 32, mint);
-        table[r * WIDTH + 64] = 2;
-        return 1;
+        // Most mints are the recorded one, and that one is not zero.
+        State::Recorded if !wire::equal(mint, table[r].mint()) && !is_zero(mint) => {
+            table[r].state = State::Ambiguous;
+            0
+        }
+        _ => 0,
     }
-    if state != 2 {
-        return 0;
-    }
-    // Most mints are the recorded one, and that one is not zero.
-    let at = r * WIDTH + 32;
-    if wire::equal(mint, &table[at..at + 32]) {
-        return 0;
-    }
-    if is_zero(mint) {
-        return 0;
-    }
-    table[r * WIDTH + 64] = 1;
-    0
 }
 
 // Records the balance rows; answers how many accounts are recorded.
-pub(crate) fn note_balances(balances: &[u8], row: &[u32], table: &mut [u8]) -> usize
+pub(crate) fn note_balances(balances: &[u8], row: &[u32], table: &mut [Row]) -> usize
     requires { Fits table.old row.now }
     ensures { balances_to balances.now row.now table.entry.now (length balances.now / 36)
         ≡ record { table = table.exit.now; room = result } }
@@ -78,6 +65,7 @@ pub(crate) fn note_balances(balances: &[u8], row: &[u32], table: &mut [u8]) -> u
 }
 
 // The row of an instruction's account i.
+#[tactic(auto, unfolding(crate::specs::Gather::row_of_account))]
 fn account_row(row: &[u32], accounts: &[u8], i: usize) -> usize
     ensures { result ≡ row_of_account row.now accounts.now i }
 {
@@ -104,7 +92,7 @@ fn note_account(
     keys: &[u8],
     accounts: &[u8],
     row: &[u32],
-    table: &mut [u8],
+    table: &mut [Row],
     room: usize,
     i: usize,
 ) -> usize
@@ -124,7 +112,7 @@ fn observe(
     keys: &[u8],
     accounts: &[u8],
     row: &[u32],
-    table: &mut [u8],
+    table: &mut [Row],
     room: usize,
 ) -> usize
     requires { (room ≤ 1152921504606846976) × Fits table.old row.now }
@@ -191,7 +179,7 @@ pub(crate) fn gather(
     pack: &[u8],
     at: &[u32],
     row: &[u32],
-    table: &mut [u8],
+    table: &mut [Row],
     transfers: &mut [Transfer],
     programs: &mut [Id; 1024],
 ) -> Gathered

@@ -1,25 +1,24 @@
 // The table as it is written: rows with a mint, ascending by account bytes; and the mint of each key index.
-ghost use Rattle.std.specs.Prelude.{◌≡◌, suc, ◌+◌, ◌-◌, ◌*◌, ◌≤◌, ◌<◌, length, take};
+ghost use Rattle.std.specs.Prelude.{◌≡◌, suc, ◌*◌, ◌≤◌, ◌<◌, length, take};
 ghost use Rattle.std.proofs.lemmas.List.Edits.{sets};
 ghost use Rattle.wire.specs.Zeros.{zeros};
-ghost use Rattle.mints.specs.Bytes.{mint_width};
 ghost use Rattle.mints.specs.Cells.{Fits};
 ghost use Rattle.mints.specs.Order.{spot_in, Rising, put_in, sort_to, rows_bytes, shown_mint, Blank, mints_to};
 
 use crate::WIDTH;
+use crate::row::Row;
 
 // The place of row r among the first k of the ordered rows: before the first whose account is greater. They ascend, so it is found by halving.
-fn spot(table: &[u8], order: &[u32], k: usize, r: usize) -> usize
-    requires { (k ≤ length order.now) × (r * mint_width + mint_width ≤ length table.now) × Fits table.now (take k order.now) × Rising table.now (take k order.now) }
+fn spot(table: &[Row], order: &[u32], k: usize, r: usize) -> usize
+    requires { (k ≤ length order.now) × (r < length table.now) × Fits table.now (take k order.now) × Rising table.now (take k order.now) }
     ensures { result ≡ spot_in table.now r (take k order.now) }
 {
-    let x = r * WIDTH;
     let mut low = 0;
     let mut high = k;
     while low < high {
         let middle = (low + high) / 2;
-        let y = order[middle] as usize * WIDTH;
-        if wire::less(&table[x..x + 32], &table[y..y + 32]) {
+        let q = order[middle] as usize;
+        if wire::less(table[r].account(), table[q].account()) {
             high = middle;
         } else {
             low = middle + 1;
@@ -42,13 +41,13 @@ fn insert(order: &mut [u32], j: usize, k: usize, r: u32)
 }
 
 // The rows with a mint, in order; answers how many they are.
-pub(crate) fn sort(table: &[u8], rows: usize, order: &mut [u32]) -> usize
-    requires { (rows ≤ length order.old) × (rows * mint_width ≤ length table.now) × (length table.now ≤ 65536) }
+pub(crate) fn sort(table: &[Row], rows: usize, order: &mut [u32]) -> usize
+    requires { (rows ≤ length order.old) × (rows ≤ length table.now) × (length table.now ≤ 65536) }
     ensures { (result ≡ length (sort_to table.now rows)) × (take result order.new ≡ sort_to table.now rows) }
 {
     let mut k = 0;
     for r in 0..rows {
-        if table[r * WIDTH + 64] <= 1 {
+        if !table[r].state.has_mint() {
             continue;
         }
         let j = spot(table, order, k, r);
@@ -58,38 +57,32 @@ pub(crate) fn sort(table: &[u8], rows: usize, order: &mut [u32]) -> usize
     k
 }
 
-// The mark of a state: 0 recorded, 1 filled in, 2 filled in and in doubt.
-fn mark_of(state: u8) -> u8
-    ensures { result ≡ state - 2 }
-{
-    state.saturating_sub(2)
-}
-
 // Writes the first k of the ordered rows: account, mint, mark.
-pub(crate) fn write_rows(table: &[u8], order: &[u32], k: usize, out: &mut [u8])
+pub(crate) fn write_rows(table: &[Row], order: &[u32], k: usize, out: &mut [u8])
     requires { (k ≤ length order.now) × (k ≤ 65536) × Fits table.now (take k order.now) }
     ensures { out.new ≡ sets out.old 0 (rows_bytes table.now (take k order.now)) }
 {
     for j in 0..k {
-        let x = order[j] as usize * WIDTH;
-        wire::put(out, j * WIDTH, &table[x..x + 64]);
-        wire::put_byte(out, j * WIDTH + 64, mark_of(table[x + 64]));
+        let row = &table[order[j] as usize];
+        wire::put(out, j * WIDTH, row.account());
+        wire::put(out, j * WIDTH + 32, row.mint());
+        wire::put_byte(out, j * WIDTH + 64, row.state.mark());
     }
 }
 
 // Writes the mint of row r to where the mint of key index i stands. A row with none leaves what is there, which is zero.
-fn write_mint(table: &[u8], r: usize, i: usize, out: &mut [u8])
-    requires { (r * mint_width + mint_width ≤ length table.now) × (i < 65536) × Blank out.old (i * 32) }
-    ensures { out.new ≡ sets out.old (i * 32) (shown_mint table.now r) }
+#[tactic(auto, unfolding(crate::specs::Order::shown_mint))]
+fn write_mint(table: &[Row], r: usize, i: usize, out: &mut [u8])
+    requires { (r < length table.now) × (i < 65536) × Blank out.old (i * 32) }
+    ensures { (out.new ≡ sets out.old (i * 32) (shown_mint table.now r)) × (length (shown_mint table.now r) ≡ 32) }
 {
-    let x = r * WIDTH + 32;
-    if 1 < table[r * WIDTH + 64] {
-        wire::put(out, i * 32, &table[x..x + 32]);
+    if table[r].state.has_mint() {
+        wire::put(out, i * 32, table[r].mint());
     }
 }
 
 // Writes the mints of the first n key indexes over zeros, so that those that have none stay zero.
-pub(crate) fn write_mints(table: &[u8], row: &[u32], n: usize, out: &mut [u8])
+pub(crate) fn write_mints(table: &[Row], row: &[u32], n: usize, out: &mut [u8])
     requires { (n ≤ length row.now) × (n ≤ 65536) × Fits table.now row.now × (out.old ≡ zeros (length out.old)) }
     ensures { out.new ≡ sets out.old 0 (mints_to table.now row.now n) }
 {

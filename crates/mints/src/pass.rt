@@ -1,12 +1,12 @@
 // Plain transfers over the table: they hand a mint to the end that has none, pass after pass.
 //
-// A transfer is two row numbers, found once for each key, so a step looks at two state bytes and searches nothing.
-ghost use Rattle.std.specs.Prelude.{◌≡◌, ◌≢◌, ◌+◌, ◌*◌, ◌≤◌, length, MatchResult};
+// A transfer is two row numbers, found once for each key, so a step looks at two states and searches nothing.
+ghost use Rattle.std.specs.Prelude.{◌≡◌, ◌≤◌, ◌<◌, length, MatchResult};
 ghost use Rattle.std.proofs.Math.Option.{none, some};
-ghost use Rattle.mints.specs.Bytes.{mint_width};
-ghost use Rattle.mints.specs.Pass.{EndsFit, hand_at, step_at, filled_at, pass_to, passes};
+ghost use Rattle.mints.specs.Pass.{EndsWithin, hand_at, step_at, filled_at, pass_to, passes};
 
-use crate::{TooManyPasses, WIDTH};
+use crate::TooManyPasses;
+use crate::row::{Row, State};
 
 // The rows of a plain transfer's source and destination.
 #[derive(Clone, Copy)]
@@ -21,43 +21,37 @@ impl Transfer {
 }
 
 // Copies the mint of row a to row b, which is then filled in.
-fn hand(table: &mut [u8], a: usize, b: usize)
-    requires { (a ≢ b) × (a * mint_width + mint_width ≤ length table.old) × (b * mint_width + mint_width ≤ length table.old) }
+#[tactic(auto, unfolding(crate::specs::Cells::with_mint))]
+fn hand(table: &mut [Row], a: usize, b: usize)
+    requires { (a < length table.old) × (b < length table.old) }
     ensures { table.new ≡ hand_at table.old a b }
 {
-    for j in 0..32 {
-        table[b * WIDTH + 32 + j] = table[a * WIDTH + 32 + j];
-    }
-    table[b * WIDTH + 64] = 3;
+    table[b].mint = table[a].mint;
+    table[b].state = State::FilledIn;
 }
 
 // One transfer: where one end has a mint and the other has none, hands it on. Answers how many accounts are filled in.
-fn step(table: &mut [u8], a: usize, b: usize) -> usize
-    requires { (a * mint_width + mint_width ≤ length table.old) × (b * mint_width + mint_width ≤ length table.old) }
+#[tactic(auto, unfolding(crate::specs::Pass::step_at, crate::specs::Pass::filled_at, crate::specs::Cells::number_of))]
+fn step(table: &mut [Row], a: usize, b: usize) -> usize
+    requires { (a < length table.old) × (b < length table.old) }
     ensures { (table.new ≡ step_at table.old a b) × (result ≡ filled_at table.old a b) }
 {
-    let x = table[a * WIDTH + 64];
-    let y = table[b * WIDTH + 64];
-    if x == 0 {
-        if 1 < y {
+    match (table[a].state, table[b].state) {
+        (State::Unknown, y) if y.has_mint() => {
             hand(table, b, a);
-            return 1;
+            1
         }
-        return 0;
+        (x, State::Unknown) if x.has_mint() => {
+            hand(table, a, b);
+            1
+        }
+        _ => 0,
     }
-    if y != 0 {
-        return 0;
-    }
-    if 1 < x {
-        hand(table, a, b);
-        return 1;
-    }
-    0
 }
 
 // One pass over the transfers; answers how many accounts are filled in.
-fn pass(table: &mut [u8], transfers: &[Transfer]) -> usize
-    requires { (length transfers.now ≤ 1024) × EndsFit table.old transfers.now }
+fn pass(table: &mut [Row], transfers: &[Transfer]) -> usize
+    requires { (length transfers.now ≤ 1024) × EndsWithin (length table.old) transfers.now }
     ensures { pass_to transfers.now table.entry.now (length transfers.now) ≡ record { table = table.exit.now; room = result } }
 {
     let mut added = 0;
@@ -76,11 +70,11 @@ pub struct Ran {
 
 // Passes until one adds nothing, at most 512; none where nothing is recorded.
 pub(crate) fn run(
-    table: &mut [u8],
+    table: &mut [Row],
     transfers: &[Transfer],
     recorded: usize,
 ) -> Result<Ran, TooManyPasses>
-    requires { (length transfers.now ≤ 1024) × (recorded ≤ 1152921504606846976) × EndsFit table.old transfers.now }
+    requires { (length transfers.now ≤ 1024) × (recorded ≤ 1152921504606846976) × EndsWithin (length table.old) transfers.now }
     ensures { MatchResult result
         (λ ran. passes transfers.now table.entry.now recorded ≡ record { table = table.exit.now; room = ran.room; passes = some ran.passes })
         (λ _. (passes transfers.now table.entry.now recorded).passes ≡ none) }

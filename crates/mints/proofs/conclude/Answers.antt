@@ -2,21 +2,21 @@
 -- every row number fits.
 use Rattle.mints.proofs.Preparing.{laid-is, laid-fits, rows-laid, gathered-is}
 use Rattle.mints.proofs.Working.{transfers-within, rows_long, counted, noted-few, concluded-is}
-use Rattle.mints.specs.Bytes.{mint_width}
+use Rattle.mints.specs.Cells.{blank_row}
 use Rattle.mints.specs.Prepare.{laid_of}
 use Rattle.ids.specs.Keys.{key_count}
 use Rattle.mints.specs.Conclude.{Concluded}
 use Rattle.std.proofs.lemmas.Result.{err_from_is_err_and}
 use lib.Seq.{length-take-le}
 use lib.ListN.{length, length-take, length-replicate}
-use Prim.Native.Nat.{ℕ, ◌*◌, ◌≤◌}
+use Prim.Native.Nat.{ℕ, ◌≤◌}
 use mathlib.Core.Path.{◌≡◌, refl, sym, ap, ◌∙◌}
 use native.Mathlib.Omega.{arith}
 use Rattle.mints.proofs.conclude.Goals as goal
 
 pub lay-rows-requires : goal.lay-rows-requires
 lay-rows-requires c =
-    let t = ap length c.requires.2 ∙ length-replicate {A = ℕ} (257 * mint_width) 0 in
+    let t = ap length c.requires.2 ∙ length-replicate 257 blank_row in
     let r = ap length c.requires.3 ∙ length-replicate {A = ℕ} 256 0 in
     (omega (arith, r), omega (arith, t), omega (arith, t))
 
@@ -27,7 +27,7 @@ note_balances-recorded-requires c =
     let ks = a.keys.now in
     let few : key_count ks ≤ 256 = omega (arith, c.requires.0) in
     let rows = laid-is ks a.table.now a.row.now c.requires.2 c.requires.3 lay.ensures in
-    let wide : length lay.new.table ≡ 257 * mint_width = lay.auto.table ∙ ap length c.requires.2 ∙ length-replicate {A = ℕ} (257 * mint_width) 0 in
+    let wide : length lay.new.table ≡ 257 = lay.auto.table ∙ ap length c.requires.2 ∙ length-replicate 257 blank_row in
     λ i. rw rows at (laid-fits ks few lay.new.table wide i)
 
 pub gather-g-requires : goal.gather-g-requires
@@ -38,7 +38,7 @@ gather-g-requires c =
     let ks = a.keys.now in
     let few : key_count ks ≤ 256 = omega (arith, c.requires.0) in
     let rows = laid-is ks a.table.now a.row.now c.requires.2 c.requires.3 lay.ensures in
-    let wide : length lay.new.table ≡ 257 * mint_width = lay.auto.table ∙ ap length c.requires.2 ∙ length-replicate {A = ℕ} (257 * mint_width) 0 in
+    let wide : length lay.new.table ≡ 257 = lay.auto.table ∙ ap length c.requires.2 ∙ length-replicate 257 blank_row in
     let noted : length note-balances.new.table ≡ length lay.new.table = note-balances.auto.table in
     record { at_in_bounds = (simp length-replicate (omega arith), c.requires.1); fits = (λ i. rw rows at (laid-fits ks few note-balances.new.table (noted ∙ wide) i), few) }
 

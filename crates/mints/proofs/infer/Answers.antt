@@ -1,17 +1,17 @@
 -- What `conclude` leaves is the definition's working table, and written in order it is the mint table; past 512 passes both have none.
 use Rattle.mints.proofs.Working.{none_right, some_right, concluded-rows, concluded-fits}
-use Rattle.mints.specs.Bytes.{mint_width}
 use Rattle.mints.specs.Conclude.{Concluded}
 use Rattle.mints.specs.Inference.{answer_of, mint_bytes, final_of}
-use Rattle.ids.specs.Keys.{key_count}
+use Rattle.ids.specs.Keys.{zero_key, key_count}
 use Rattle.std.proofs.lemmas.Result.{err_from_is_err_and}
 use lib.ListN.{length, length-take}
-use Prim.Native.Nat.{◌*◌, ◌≤◌}
+use Prim.Native.Nat.{◌≤◌}
 use mathlib.Core.Path.{◌≡◌, refl, ap, ◌∙◌}
 use native.Mathlib.Omega.{arith}
 use Rattle.mints.proofs.infer.Goals as goal
 
 pub conclude-requires : goal.conclude-requires
+unfolding zero_key
 conclude-requires c =
     let a = c.args in (
       omega (arith, ap length c.first_keys-keys.ensures, length-take 8448 a.keys.now),
@@ -46,7 +46,7 @@ publish-k-requires c =
     let few : key_count ks ≤ 256 = omega (arith, ap length first-keys.ensures, length-take 8448 a.keys.now) in
     let q = c.in_ok-done.ensures in
     let table = conclude.new.table in
-    let t : length table ≡ 257 * mint_width = conclude.auto.table in
+    let t : length table ≡ 257 = conclude.auto.table in
     let r : length conclude.new.row ≡ 256 = conclude.auto.row in
     let n = c.key_count.ensures in record {
       rows_bound = (

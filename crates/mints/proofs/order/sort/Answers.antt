@@ -11,10 +11,10 @@ pub loop-r-init : goal.loop-r-init
 unfolding sort_to
 loop-r-init c = (refl, omega arith, refl, refl)
 
-pub loop-r-preserved-then-table-r-le1 : goal.loop-r-preserved-then-table-r-le1
-loop-r-preserved-then-table-r-le1 c =
+pub loop-r-preserved-then-not-has_mint : goal.loop-r-preserved-then-not-has_mint
+loop-r-preserved-then-not-has_mint c =
     let l = c.loop-r in
-    let e = sort-skip c.args.table.now l.r c.if-table-r-le1.true in
+    let e = sort-skip c.args.table.now l.r (sym c.has_mint.ensures ∙ c.if-not-has_mint.true) in
     (l.invariant.0, omega arith, l.invariant.2 ∙ sym (ap length e), l.invariant.3 ∙ sym e)
 
 pub spot-j-requires : goal.spot-j-requires
@@ -33,7 +33,7 @@ pub loop-r-preserved : goal.loop-r-preserved
 loop-r-preserved c =
     let l = c.loop-r in
     let t = c.args.table.now in
-    let e = sort-next t l.r c.if-table-r-le1.false in
+    let e = sort-next t l.r (sym c.has_mint.ensures ∙ c.if-not-has_mint.false) in
     let n = put-length (sort_to t l.r) (spot_in t l.r (sort_to t l.r)) l.r (spot-bound t l.r (sort_to t l.r)) in (
       c.insert.auto.order ∙ l.invariant.0,
       omega arith,

@@ -2,16 +2,17 @@
 use Rattle.mints.proofs.Search.{within}
 use Rattle.ids.proofs.Keys.{key-length}
 use Rattle.mints.proofs.Laying.{lay-next, one-row, ends-first, ends_more}
+use Rattle.mints.specs.declared.row.State.TheVariants.{Ambiguous}
 use Rattle.mints.specs.Cells.{with_state}
 use Rattle.mints.specs.Lay.{lay_to}
 use Rattle.ids.specs.Keys.{zero_key, key_count, key_of}
-use lib.ListN.{length, set, length-set}
+use lib.ListN.{length, length-set}
 use mathlib.Core.Path.{◌≡◌, refl, ap, ◌∙◌}
 use native.Mathlib.Omega.{arith}
 use Rattle.mints.proofs.table.lay_marking.Goals as goal
 
 pub loop-i-init : goal.loop-i-init
-unfolding lay_to zero_key
+unfolding lay_to zero_key with_state
 loop-i-init c =
     let a = c.args in
     let w : length a.ends.now ≡ 256 = c.requires.3 in (
@@ -21,7 +22,7 @@ loop-i-init c =
       simp length-set (omega arith),
       refl,
       simp length-set w,
-      ends-first (set a.table.now 64 1) a.ends.now c.byte.ensures (omega (arith, w)),
+      ends-first (with_state a.table.now 0 Ambiguous) a.ends.now refl (omega (arith, w)),
     )
 
 pub slice_bounds-key-end : goal.slice_bounds-key-end
@@ -33,6 +34,10 @@ row_for-r-requires c =
     let l = c.loop-i in
     let a = c.args in
     (ap length c.key-key.ensures ∙ key-length a.keys.now l.i, omega arith, l.invariant.6)
+
+pub add-rows-requires : goal.add-rows-requires
+unfolding zero_key
+add-rows-requires c = (omega arith, ap length c.key-key.ensures ∙ key-length c.args.keys.now c.loop-i.i)
 
 pub overflow_cast-row : goal.overflow_cast-row
 overflow_cast-row c =
@@ -55,7 +60,7 @@ loop-i-preserved c =
       omega (arith, k, l.invariant.3),
       lay-next (key_of a.keys.now) _ a.row.now l.i (record { table = l.table; row = l.row; rows = l.rows }) l.invariant.4 key.ensures row-for.ensures q.table_after q.value,
       simp length-set l.invariant.5,
-      ends_more l.table key.result.now l.ends l.rows row-for.result l.invariant.6 (ap length key.ensures ∙ key-length a.keys.now l.i) (omega arith) c.byte-in-loop-i.ensures (omega (arith, l.invariant.5)) q.table_after q.value,
+      ends_more l.table key.result.now l.ends l.rows row-for.result l.invariant.6 (omega arith) c.byte.ensures (omega (arith, l.invariant.5)) q.table_after q.value,
     )
 
 pub shape_of-table : goal.shape_of-table
@@ -65,7 +70,7 @@ pub shape_of-row : goal.shape_of-row
 shape_of-row c = c.loop-i.invariant.1
 
 pub returns : goal.returns
-unfolding with_state
+unfolding with_state zero_key
 returns c =
     let l = c.loop-i in
     let a = c.args in
