@@ -7,14 +7,13 @@ use lib.ListN.{length-replicate}
 use Rattle.wire.specs.Zeros.{zeros}
 use Rattle.wire.specs.Order.{Below, shorter}
 use Rattle.month.specs.Transfers.{FedTransfer, Line, summed, own, source_line, destination_line, touched}
-use Rattle.month.specs.Report.{lines_of, lines_in, used, fed_into}
+use Rattle.month.specs.Report.{Report, Sorted, lines_of, lines_in, used, fed_into}
 use Rattle.month.specs.Adding.{new_in}
-use Rattle.month.specs.Bytes.{rows_to, transfers_to, transfers_in}
+use Rattle.month.specs.Bytes.{transfers_to, transfers_in}
 use Rattle.month.specs.Lookup.{fed_at, line_numbered, new_above}
-use Rattle.month.specs.Standing.{Stands, Entered}
+use Rattle.month.specs.Standing.{Entered}
 use Rattle.month.proofs.Reports.{lines-length}
 use Rattle.month.proofs.Rows.{fed-used}
-use Rattle.month.proofs.Views.{rows-length}
 use Rattle.month.proofs.Least.{new-after, new-count, new-most}
 use Rattle.month.proofs.Noting.{held-length, held-line}
 
@@ -54,17 +53,16 @@ transfers-count t zero = refl
 transfers-count t (suc n) = length-append (transfers_to t n) (fed_at t n ∷ []) ∙ rw (transfers-count t n) (omega arith)
 
 -- the rows that a table asks for, and their lines counted
-module _ (b : List ℕ) (rows : ℕ) (t : List ℕ) where
-  pub rows-asked : Stands b rows → used (fed_into (rows_to b rows) (transfers_in t)) ≡ rows + new_in (lines_of (rows_to b rows)) (lines_in (transfers_in t))
-  rows-asked s = omega (arith, fed-used (transfers_in t) s.sorted, rows-length b rows)
+module _ (r : Report) (t : List ℕ) where
+  pub rows-asked : Sorted r → used (fed_into r (transfers_in t)) ≡ used r + new_in (lines_of r) (lines_in (transfers_in t))
+  rows-asked s = fed-used (transfers_in t) s
 
-  pub new-few : new_in (lines_of (rows_to b rows)) (lines_in (transfers_in t)) ≤ 3 * (length t / 150)
+  pub new-few : new_in (lines_of r) (lines_in (transfers_in t)) ≤ 3 * (length t / 150)
   unfolding transfers_in
-  new-few =
-      omega (arith, new-most (lines_of (rows_to b rows)) (lines_in (transfers_to t (length t / 150))), lines-length (transfers_to t (length t / 150)), transfers-count t (length t / 150))
+  new-few = omega (arith, new-most (lines_of r) (lines_in (transfers_to t (length t / 150))), lines-length (transfers_to t (length t / 150)), transfers-count t (length t / 150))
 
-  pub new-all : length (new_above (lines_of (rows_to b rows)) [] (lines_in (transfers_in t))) ≡ new_in (lines_of (rows_to b rows)) (lines_in (transfers_in t))
-  new-all = new-count (lines_of (rows_to b rows)) (lines_in (transfers_in t)) (lines-filled (transfers_in t))
+  pub new-all : length (new_above (lines_of r) [] (lines_in (transfers_in t))) ≡ new_in (lines_of r) (lines_in (transfers_in t))
+  new-all = new-count (lines_of r) (lines_in (transfers_in t)) (lines-filled (transfers_in t))
 
 module _ (old : List Line) (bound : Line) (ks : List Line) {t ns : List ℕ} {k : ℕ} (most : ℕ) (e : Entered t ns k (take most (new_above old bound ks))) where
   -- as many as can be held, or all

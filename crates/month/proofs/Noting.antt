@@ -12,8 +12,7 @@ use Rattle.wire.specs.Order.{lt_key}
 use Rattle.wire.specs.Ascending.{Ascending}
 use Rattle.wire.proofs.Ascending.{put-mem}
 use Rattle.month.specs.Transfers.{Line}
-use Rattle.month.specs.Report.{lines_of, enter}
-use Rattle.month.specs.Bytes.{rows_to}
+use Rattle.month.specs.Report.{enter}
 use Rattle.month.specs.Adding.{among}
 use Rattle.month.specs.Lookup.{line_numbered, lines_numbered, spot_of, least_with}
 use Rattle.month.specs.Standing.{Held, Entered}
@@ -168,45 +167,45 @@ module _ {t ns : List ℕ} {k : ℕ} (h : Held t ns k) (n j : ℕ) (place : j �
       ascend = take-ascends (length ns) (enter-ascends (line_numbered t n) h.held_ascend)
 
 -- what is held when line n has been looked at
-abbrev pub Noted : (t ns : List ℕ) (k : ℕ) (b : List ℕ) (rows : ℕ) (bound : Line) (n : ℕ) (ns' : List ℕ) (k' : ℕ) → Type 0
-Noted t ns k b rows bound n ns' k' =
-    Entered t ns' k' (least_with (length ns) (lines_of (rows_to b rows)) bound (line_numbered t n) (lines_numbered t (take k ns)))
+abbrev pub Noted : (t ns : List ℕ) (k : ℕ) (old : List Line) (bound : Line) (n : ℕ) (ns' : List ℕ) (k' : ℕ) → Type 0
+Noted t ns k old bound n ns' k' =
+    Entered t ns' k' (least_with (length ns) old bound (line_numbered t n) (lines_numbered t (take k ns)))
 
-module _ {t ns : List ℕ} {k : ℕ} (h : Held t ns k) (b : List ℕ) (rows : ℕ) (bound : Line) (n : ℕ) {line : Line} (e : line ≡ line_numbered t n) where
-  pub note-below : lt_key bound line ≡ false → Noted t ns k b rows bound n ns k
+module _ {t ns : List ℕ} {k : ℕ} (h : Held t ns k) (old : List Line) (bound : Line) (n : ℕ) {line : Line} (e : line ≡ line_numbered t n) where
+  pub note-below : lt_key bound line ≡ false → Noted t ns k old bound n ns k
   note-below f =
       record {
-        entered = sym (not-above (length ns) (lines_of (rows_to b rows)) bound (line_numbered t n) (lines_numbered t (take k ns)) (rw e at f));
+        entered = sym (not-above (length ns) old bound (line_numbered t n) (lines_numbered t (take k ns)) (rw e at f));
         holds_lines = h;
       }
 
-  pub note-old : among line (lines_of (rows_to b rows)) ≡ true → Noted t ns k b rows bound n ns k
+  pub note-old : among line old ≡ true → Noted t ns k old bound n ns k
   note-old f =
       record {
-        entered = sym (not_new (length ns) (lines_of (rows_to b rows)) bound (line_numbered t n) (lines_numbered t (take k ns)) (rw e at f));
+        entered = sym (not_new (length ns) old bound (line_numbered t n) (lines_numbered t (take k ns)) (rw e at f));
         holds_lines = h;
       }
 
   -- above the bound, and not in the report
-  module _ (f : lt_key bound line ≡ true) (g : among line (lines_of (rows_to b rows)) ≡ false) where
-    enters : least_with (length ns) (lines_of (rows_to b rows)) bound (line_numbered t n) (lines_numbered t (take k ns))
+  module _ (f : lt_key bound line ≡ true) (g : among line old ≡ false) where
+    enters : least_with (length ns) old bound (line_numbered t n) (lines_numbered t (take k ns))
         ≡ take (length ns) (enter (line_numbered t n) (lines_numbered t (take k ns)))
     enters =
-        least-enter (length ns) (lines_of (rows_to b rows)) bound (line_numbered t n) (lines_numbered t (take k ns)) (rw e at f) (rw e at g)
+        least-enter (length ns) old bound (line_numbered t n) (lines_numbered t (take k ns)) (rw e at f) (rw e at g)
 
     module _ {j : ℕ} (q : j ≡ spot_of line (lines_numbered t (take k ns))) where
-      pub note-behind : length ns ≤ j → Noted t ns k b rows bound n ns k
+      pub note-behind : length ns ≤ j → Noted t ns k old bound n ns k
       note-behind d =
           record {
             entered = sym (enters ∙ least-behind (length ns) (line_numbered t n) h.held_ascend (omega (arith, held-length h, h.held_most)) (rw (q, e) at d));
             holds_lines = h;
           }
 
-      pub note-there : (ltb j k && same (line_numbered t (get_or ns j 0)) line) ≡ true → Noted t ns k b rows bound n ns k
+      pub note-there : (ltb j k && same (line_numbered t (get_or ns j 0)) line) ≡ true → Noted t ns k old bound n ns k
       note-there d = record { entered = sym (enters ∙ noted-there h n j (rw e at q) (rw e at d)); holds_lines = h }
 
       pub note-put : {ns' : List ℕ} {kept : ℕ} → n / 3 * 150 + 150 ≤ length t → length ns' ≡ length ns → Keeps j k (length ns) kept
           → (ltb j k && same (line_numbered t (get_or ns j 0)) line) ≡ false
           → take (suc kept) ns' ≡ take j ns ++ (n ∷ take (kept - j) (drop j ns))
-          → Noted t ns k b rows bound n ns' (kept + 1)
+          → Noted t ns k old bound n ns' (kept + 1)
       note-put {kept} there len w d g = rw enters (noted h n j (rw e at q) kept there len w.0 w.1 w.2 w.3 (rw e at d) g)

@@ -10,6 +10,7 @@ ghost use Rattle.month.specs.Bytes.{rows_to};
 ghost use Rattle.month.specs.Lookup.{lines_numbered, empty_rows};
 ghost use Rattle.month.specs.Standing.{Stands, Held};
 
+use crate::report::Report;
 use crate::{LINE, ROW, line};
 
 // Writes a row with a line and no sums.
@@ -30,7 +31,7 @@ pub(crate) fn put_in(report: &mut [u8], rows: usize, t: &[u8], numbers: &[usize]
     let mut i = rows;
     for j in (0..k).rev() {
         let line = line::numbered(t, numbers[j]);
-        let place = line::spot(report, i, &line);
+        let place = Report::new(report, i).spot(&line);
         report.copy_within(place * ROW..i * ROW, (place + j + 1) * ROW);
         put_row(report, (place + j) * ROW, &line);
         i = place;

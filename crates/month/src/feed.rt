@@ -5,6 +5,7 @@ ghost use Rattle.month.specs.Bytes.{rows_to, transfers_in};
 ghost use Rattle.month.specs.Lookup.{transfers_at, all_among};
 ghost use Rattle.month.specs.Standing.{Bears, Stands, PlacesIn, Walked};
 
+use crate::report::Report;
 use crate::{TRANSFER, empty, new, sums};
 
 // Adds waiting transfers whose lines the report has.
@@ -29,7 +30,7 @@ fn admit(report: &mut [u8], rows: usize, t: &[u8], wait: &[usize]) -> usize
         return rows;
     }
     let mut numbers = [0usize; 3072];
-    let k = new::gather(report, rows, t, wait, &mut numbers);
+    let k = new::gather(&Report::new(report, rows), t, wait, &mut numbers);
     empty::put_in(report, rows, t, &numbers, k);
     post_waiting(report, rows + k, t, wait);
     rows + k

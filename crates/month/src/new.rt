@@ -6,10 +6,11 @@ ghost use Rattle.month.specs.Transfers.{touched};
 ghost use Rattle.month.specs.Report.{lines_of, lines_in};
 ghost use Rattle.month.specs.Bytes.{rows_to};
 ghost use Rattle.month.specs.Lookup.{fed_at, transfers_at, line_numbered, lines_numbered, spot_of, least_with, least_of, new_above};
-ghost use Rattle.month.specs.Standing.{Stands, PlacesIn, Held, Entered};
+ghost use Rattle.month.specs.Standing.{PlacesIn, Held, Entered};
 
 use crate::half::halved;
 use crate::line;
+use crate::report::Report;
 
 // How many of the first k lines are below a line. They ascend, so it is found by halving.
 pub(crate) fn spot(t: &[u8], numbers: &[usize], k: usize, line: &[u8]) -> usize
@@ -44,24 +45,23 @@ fn insert(numbers: &mut [usize], j: usize, k: usize, n: usize)
 
 // Enters line n among the first k, if it is above the bound and stands neither there nor in the report. Where no more than these can be held, the last goes.
 fn note(
-    report: &[u8],
-    rows: usize,
+    report: &Report<'_>,
     t: &[u8],
     n: usize,
     bound: &[u8],
     numbers: &mut [usize],
     k: usize,
 ) -> usize
-    requires { Stands report.now rows × (n / 3 * 150 + 150 ≤ length t.now) × Held t.now numbers.old k }
+    requires { (n / 3 * 150 + 150 ≤ length t.now) × Held t.now numbers.old k }
     ensures { Entered t.now numbers.new result
-        (least_with (length numbers.old) (lines_of (rows_to report.now rows)) bound.now
+        (least_with (length numbers.old) (lines_of report.now) bound.now
         (line_numbered t.now n) (lines_numbered t.now (take k numbers.old))) }
 {
     let line = line::numbered(t, n);
     if !wire::less(bound, &line) {
         return k;
     }
-    if line::find(report, rows, &line).is_some() {
+    if report.find(&line).is_some() {
         return k;
     }
     let j = spot(t, numbers, k, &line);
@@ -78,43 +78,36 @@ fn note(
 
 // Enters the lines of transfer i.
 pub(crate) fn note_lines(
-    report: &[u8],
-    rows: usize,
+    report: &Report<'_>,
     t: &[u8],
     i: usize,
     bound: &[u8],
     numbers: &mut [usize],
     k: usize,
 ) -> usize
-    requires { Stands report.now rows × (i * 150 + 150 ≤ length t.now) × Held t.now numbers.old k }
+    requires { (i * 150 + 150 ≤ length t.now) × Held t.now numbers.old k }
     ensures { Entered t.now numbers.new result
-        (least_of (length numbers.old) (lines_of (rows_to report.now rows)) bound.now
+        (least_of (length numbers.old) (lines_of report.now) bound.now
         (touched (fed_at t.now i)) (lines_numbered t.now (take k numbers.old))) }
 {
-    let one = note(report, rows, t, 3 * i, bound, numbers, k);
+    let one = note(report, t, 3 * i, bound, numbers, k);
     if !line::is_summed(t, i) {
         return one;
     }
-    let two = note(report, rows, t, 3 * i + 1, bound, numbers, one);
-    note(report, rows, t, 3 * i + 2, bound, numbers, two)
+    let two = note(report, t, 3 * i + 1, bound, numbers, one);
+    note(report, t, 3 * i + 2, bound, numbers, two)
 }
 
 // The lines that waiting transfers bring, as many as can be held; answers how many they are.
-pub(crate) fn gather(
-    report: &[u8],
-    rows: usize,
-    t: &[u8],
-    wait: &[usize],
-    numbers: &mut [usize],
-) -> usize
-    requires { Stands report.now rows × PlacesIn t.now wait.now }
+pub(crate) fn gather(report: &Report<'_>, t: &[u8], wait: &[usize], numbers: &mut [usize]) -> usize
+    requires { PlacesIn t.now wait.now }
     ensures { Entered t.now numbers.new result
-        (take (length numbers.old) (new_above (lines_of (rows_to report.now rows)) []
+        (take (length numbers.old) (new_above (lines_of report.now) []
         (lines_in (transfers_at t.now wait.now)))) }
 {
     let mut k = 0;
     for i in wait {
-        k = note_lines(report, rows, t, *i, b"", numbers, k);
+        k = note_lines(report, t, *i, b"", numbers, k);
     }
     k
 }

@@ -18,7 +18,7 @@ use Rattle.month.proofs.empty.put_in.Goals.{After-spot-place}
 place-most : (c : After-spot-place) → c.spot-place.result ≤ c.loop-j.i
 place-most c =
     let l = c.loop-j in
-    omega (arith, c.spot-place.ensures, spot-most c.numbered-line.result (lines_of (rows_to l.report l.i)), lines-length l.report l.i)
+    omega (arith, rw c.new.ensures at c.spot-place.ensures, spot-most c.numbered-line.result (lines_of (rows_to l.report l.i)), lines-length l.report l.i)
 
 line-long : (c : After-spot-place) → length c.numbered-line.result ≡ 66
 line-long c = rw c.numbered-line.ensures (numbered-long c.args.t.now (get_or c.args.numbers.now (c.loop-j.j - 1) 0) (held_at c.requires.2 (c.loop-j.j - 1) (omega arith)))
@@ -39,8 +39,8 @@ bounds-numbers-j c = omega (arith, c.requires.2.held_most)
 pub numbered-line-requires : goal.numbered-line-requires
 numbered-line-requires c = held_at c.requires.2 (c.loop-j.j - 1) (omega arith)
 
-pub spot-place-requires : goal.spot-place-requires
-spot-place-requires c = record { inside = omega arith; sorted = c.loop-j.invariant.2 }
+pub new-requires : goal.new-requires
+new-requires c = record { inside = omega arith; sorted = c.loop-j.invariant.2 }
 
 pub overflow_mul-place : goal.overflow_mul-place
 overflow_mul-place c = omega (arith, place-most (goal.at.overflow_mul-place c).After-spot-place)
@@ -83,7 +83,7 @@ loop-j-preserved c =
     let most = place-most (goal.at.loop-j-preserved c).After-spot-place in
     let wide : length line ≡ 66 = numbered-long t (get_or ns j 0) (held_at h j (omega arith)) in
     let room : (c.args.rows + c.args.k) * 118 ≤ length b = omega arith in
-    let seat : p ≡ spot_of line (lines_of (rows_to b l.i)) = rw (← c.numbered-line.ensures) c.spot-place.ensures in
+    let seat : p ≡ spot_of line (lines_of (rows_to b l.i)) = rw (← c.numbered-line.ensures, ← c.new.ensures) c.spot-place.ensures in
     let up : (p + j + 1) * 118 ≡ p * 118 + l.j * 118 = omega arith in
     let out : c.put_row.new.report ≡ put_in b p l.i l.j j line =
     c.put_row.ensures ∙ rw (c.copy_within.ensures.after, copied b (p * 118) (l.i * 118) ((p + j + 1) * 118) (omega arith) (omega arith) (omega arith), up, c.numbered-line.ensures) in

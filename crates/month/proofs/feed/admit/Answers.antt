@@ -31,7 +31,7 @@ rows_then c =
     omega (
       arith,
       rows-length a.report.now a.rows,
-      admit-used (old c) a.t.now a.wait.now g.new.numbers g.result p.1 g.ensures p.0.sorted,
+      admit-used (old c) a.t.now a.wait.now g.new.numbers g.result p.1 (rw c.new.ensures at g.ensures) p.0.sorted,
     )
 
 -- the report with the empty rows
@@ -42,7 +42,7 @@ made c =
     let g = c.gather-k in
     let a = c.args in
     let p = c.requires in
-    c.put_in.ensures ∙ admit-rows (rows_to a.report.now a.rows) a.t.now a.wait.now g.new.numbers g.result p.1 g.ensures
+    c.put_in.ensures ∙ admit-rows (rows_to a.report.now a.rows) a.t.now a.wait.now g.new.numbers g.result p.1 (rw c.new.ensures at g.ensures)
 
 pub returns-then-is_empty : goal.returns-then-is_empty
 returns-then-is_empty c =
@@ -60,7 +60,7 @@ put_in-requires c =
       p.0,
       omega (arith, rows_then (goal.at.put_in-requires c).After-gather-k, p.4),
       g.ensures.holds_lines,
-      admit-out (rows_to a.report.now a.rows) a.t.now a.wait.now g.new.numbers g.result p.1 g.ensures,
+      admit-out (rows_to a.report.now a.rows) a.t.now a.wait.now g.new.numbers g.result p.1 (rw c.new.ensures at g.ensures),
     )
 
 pub post_waiting-requires : goal.post_waiting-requires
