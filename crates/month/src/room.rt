@@ -3,26 +3,24 @@ ghost use Rattle.std.specs.Prelude.{◌≡◌, ◌≤◌, length, take, nat_lt};
 ghost use Rattle.month.specs.Report.{used, lines_of, lines_in, fed_into};
 ghost use Rattle.month.specs.Bytes.{transfers_in};
 ghost use Rattle.month.specs.Lookup.{new_above};
-ghost use Rattle.month.specs.Standing.{Entered};
 
+use crate::new::{Lines, MOST};
 use crate::report::Report;
-use crate::{LINE, TRANSFER, line, new};
+use crate::{LINE, TRANSFER};
 
-// The least lines above a bound that a table brings, as many as can be held; answers how many they are.
-fn least(report: &Report<'_>, t: &[u8], bound: &[u8], numbers: &mut [usize]) -> usize
-    ensures { Entered t.now numbers.new result
-        (take (length numbers.old) (new_above (lines_of report.now) bound.now
-        (lines_in (transfers_in t.now)))) }
+// Leaves the least lines above a bound that the table brings, as many as can be held.
+fn least(report: &Report<'_>, t: &[u8], bound: &[u8], lines: &mut Lines<'_>)
+    requires { lines.old.table ≡ t.now }
+    ensures { lines.new ≡ record { table = t.now; lines = take 3072 (new_above (lines_of report.now) bound.now (lines_in (transfers_in t.now))) } }
 {
-    let mut k = 0;
+    lines.clear();
     for i in 0..t.len() / TRANSFER {
-        k = new::note_lines(report, t, i, bound, numbers, k);
+        lines.enter_all(report, i, bound);
     }
-    k
 }
 
-// Whether a table brings more lines than there is room for, in a buffer of `size` rows. No transfer brings more than three, so where there is room for that nothing is counted.
-// Else new lines are counted from the least up, as many at a time as can be held, and each time those above the last one.
+// Whether a table brings more lines than there is room for, in a buffer of `size` rows. No transfer brings more than three, so where there is room for that
+// nothing is counted. Else new lines are counted from the least up, as many at a time as can be held, and each time those above the last one.
 pub(crate) fn full(report: &Report<'_>, size: usize, t: &[u8]) -> bool
     requires { used report.now ≤ size }
     ensures { result ≡ nat_lt size (used (fed_into report.now (transfers_in t.now))) }
@@ -31,20 +29,21 @@ pub(crate) fn full(report: &Report<'_>, size: usize, t: &[u8]) -> bool
     if t.len() / TRANSFER <= room / 3 {
         return false;
     }
-    let mut numbers = [0usize; 3072];
+    let mut lines = Lines::none_of(t);
     let mut last = [0; LINE];
     let mut width = 0;
     let mut fresh = 0;
     loop {
-        let k = least(report, t, &last[0..width], &mut numbers);
+        least(report, t, &last[..width], &mut lines);
+        let k = lines.len();
         if room - fresh < k {
             return true;
         }
-        if k < 3072 {
+        if k < MOST {
             return false;
         }
         fresh += k;
-        last = line::numbered(t, numbers[k - 1]);
+        last = lines.line(k - 1);
         width = LINE;
     }
 }

@@ -8,7 +8,7 @@ use Rattle.std.proofs.Common.{◌≡◌, ◌+◌, ◌-◌, ◌≤◌, length, ta
 use Rattle.month.proofs.room.full.Given as goal
 
 abbrev pub invariant-loop-fresh : goal.invariant-loop-fresh
-invariant-loop-fresh l = (length l.numbers ≡ 3072) × (length l.last ≡ 66) × (l.width ≤ 66) × (l.fresh ≤ l.room)
+invariant-loop-fresh l = (l.lines.table ≡ l.t) × (length l.last ≡ 66) × (l.width ≤ 66) × (l.fresh ≤ l.room)
     × (l.fresh + length (new_above (lines_of l.report) (take l.width l.last) (lines_in (transfers_in l.t))) ≡ new_in (lines_of l.report) (lines_in (transfers_in l.t)))
 
 abbrev pub decreases-loop-fresh : goal.decreases-loop-fresh
