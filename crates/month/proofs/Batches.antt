@@ -1,6 +1,6 @@
 -- A table fed in parts: transfers may wait, since sums ask for no order, and rows without sums bring nothing.
 -- Assumes nothing.
-use Rattle.std.proofs.Common.{◌≡◌, ℕ, zero, suc, ◌+◌, ◌-◌, ◌*◌, ◌/◌, ◌<◌, ◌≤◌, Bool, true, false, cond, ◌⊎◌, List, [], ◌∷◌, ◌++◌, length, get_or, take, set, sym, refl, ap, ◌∙◌, inl, inr, append-nil, add-zero, add-suc, suc-add, add-one, arith, length-take-le, take_all, take-suc-set}
+use Rattle.std.proofs.Common.{◌≡◌, ℕ, zero, suc, ◌+◌, ◌-◌, ◌*◌, ◌/◌, ◌<◌, ◌≤◌, Bool, true, false, cond, ◌⊎◌, List, [], ◌∷◌, ◌++◌, length, get_or, take, set, sym, refl, ap, ◌∙◌, inl, inr, append-nil, add-zero, add-suc, suc-add, add-one, arith, take_all, take-suc-set}
 use mathlib.Core.List.Memᴰ
 use mathlib.Core.List.Permᴰ
 use mathlib.Core.List.{Memᴰ}
@@ -18,8 +18,8 @@ use Rattle.month.specs.Sums.{Sums, nothing, plus, sums_of}
 use Rattle.month.specs.Report.{Report, Sorted, lines_of, lines_in, used, held_on, fed_into}
 use Rattle.month.specs.Adding.{add_rows, among}
 use Rattle.month.specs.Bytes.{rows_to, transfers_to, transfers_in}
-use Rattle.month.specs.Lookup.{fed_at, transfers_at, transfers_from, line_numbered, lines_numbered, all_among, has_all, new_above, empty_rows}
-use Rattle.month.specs.Standing.{Bears, Stands, PlacesIn, Entered}
+use Rattle.month.specs.Lookup.{fed_at, transfers_at, transfers_from, all_among, has_all, new_above, empty_rows}
+use Rattle.month.specs.Standing.{Bears, Stands, PlacesIn}
 use Rattle.month.proofs.Adds.{plus-nothing}
 use Rattle.month.proofs.Lines.{ascending-same}
 use Rattle.month.proofs.Tables.{mem?, report-unique}
@@ -241,28 +241,24 @@ pub from-none : (t : List ℕ) (i : ℕ) → transfers_from t i (i - i) ≡ []
 unfolding tab
 from-none t i = let z : i - i ≡ 0 = omega arith in rw z
 
--- rows for the lines that some waiting transfers bring, by the lines' numbers
+-- rows for the lines that some waiting transfers bring
 module _
     (r : Report)
-    (t wait ns : List ℕ)
-    (k : ℕ)
+    (t wait : List ℕ)
+    {lines : List Line}
     (few : length wait ≤ 1024)
-    (g : Entered t ns k (take 3072 (new_above (lines_of r) [] (lines_in (transfers_at t wait))))) where
-  numbered-fresh : lines_numbered t (take k ns) ≡ fresh r (transfers_at t wait)
-  numbered-fresh =
-      g.entered
-      ∙ fresh-whole r (transfers_at t wait) (omega (arith, length-map wait (fed_at t)))
+    (g : lines ≡ take 3072 (new_above (lines_of r) [] (lines_in (transfers_at t wait)))) where
+  all-fresh : lines ≡ fresh r (transfers_at t wait)
+  all-fresh = g ∙ fresh-whole r (transfers_at t wait) (omega (arith, length-map wait (fed_at t)))
 
-  pub admit-used : Sorted r → used r + k ≡ used (fed_into r (transfers_at t wait))
-  admit-used s =
-      omega
-      (arith, fresh-used r (transfers_at t wait) s, ap (λ (l : List Line). length l) numbered-fresh, length-map (take k ns) (line_numbered t), length-take-le k ns g.holds_lines.held_most)
+  pub admit-used : Sorted r → used r + length lines ≡ used (fed_into r (transfers_at t wait))
+  admit-used s = omega (arith, fresh-used r (transfers_at t wait) s, ap (λ (l : List Line). length l) all-fresh)
 
-  pub admit-out : (x : Line) → Memᴰ x (lines_numbered t (take k ns)) → among x (lines_of r) ≡ false
-  admit-out x i = fresh-out r (transfers_at t wait) x (rw numbered-fresh at i)
+  pub admit-out : (x : Line) → Memᴰ x lines → among x (lines_of r) ≡ false
+  admit-out x i = fresh-out r (transfers_at t wait) x (rw all-fresh at i)
 
-  pub admit-rows : add_rows r (empty_rows (lines_numbered t (take k ns))) ≡ add_rows r (empty_rows (fresh r (transfers_at t wait)))
-  admit-rows = ap (λ (l : List Line). add_rows r (empty_rows l)) numbered-fresh
+  pub admit-rows : add_rows r (empty_rows lines) ≡ add_rows r (empty_rows (fresh r (transfers_at t wait)))
+  admit-rows = ap (λ (l : List Line). add_rows r (empty_rows l)) all-fresh
 
 -- a table up to a place, and to its end
 pub fed-start : (t : List ℕ) {r : Report} → Sorted r → r ≡ fed_into r (transfers_to t 0)

@@ -1,22 +1,19 @@
 -- New lines counted from the least up: what is above the last of those held is what was not held, and no transfer brings more than three.
 -- Assumes nothing.
-use Rattle.std.proofs.Common.{◌≡◌, ℕ, zero, suc, ◌+◌, ◌-◌, ◌*◌, ◌/◌, ◌<◌, ◌≤◌, min, Bool, true, false, cond, List, [], ◌∷◌, ◌++◌, length, get_or, take, drop, sym, refl, ap, ◌∙◌, ⊎_elim, arith, length-append, length-drop, length-take, get_or-take}
+use Rattle.std.proofs.Common.{◌≡◌, ℕ, zero, suc, ◌+◌, ◌-◌, ◌*◌, ◌/◌, ◌<◌, ◌≤◌, min, Bool, true, false, cond, List, [], ◌∷◌, ◌++◌, length, get_or, take, drop, refl, ap, ◌∙◌, ⊎_elim, arith, length-append, length-drop, length-take, get_or-take}
 use mathlib.Core.List.Memᴰ
 use mathlib.Core.List.{Memᴰ}
 use lib.ListN.{length-replicate}
 use Rattle.wire.specs.Zeros.{zeros}
 use Rattle.wire.specs.Order.{Below, shorter}
 use Rattle.month.specs.Transfers.{FedTransfer, Line, summed, own, source_line, destination_line, touched}
-use Rattle.month.specs.Report.{lines_of, lines_in, used, fed_into}
+use Rattle.month.specs.Report.{Report, Sorted, lines_of, lines_in, used, fed_into}
 use Rattle.month.specs.Adding.{new_in}
-use Rattle.month.specs.Bytes.{rows_to, transfers_to, transfers_in}
-use Rattle.month.specs.Lookup.{fed_at, line_numbered, new_above}
-use Rattle.month.specs.Standing.{Stands, Entered}
+use Rattle.month.specs.Bytes.{transfers_to, transfers_in}
+use Rattle.month.specs.Lookup.{fed_at, new_above}
 use Rattle.month.proofs.Reports.{lines-length}
 use Rattle.month.proofs.Rows.{fed-used}
-use Rattle.month.proofs.Views.{rows-length}
 use Rattle.month.proofs.Least.{new-after, new-count, new-most}
-use Rattle.month.proofs.Noting.{held-length, held-line}
 
 -- no line is empty
 filled : (m l : List ℕ) → 0 < length l → Below [] (m ++ l)
@@ -54,30 +51,29 @@ transfers-count t zero = refl
 transfers-count t (suc n) = length-append (transfers_to t n) (fed_at t n ∷ []) ∙ rw (transfers-count t n) (omega arith)
 
 -- the rows that a table asks for, and their lines counted
-module _ (b : List ℕ) (rows : ℕ) (t : List ℕ) where
-  pub rows-asked : Stands b rows → used (fed_into (rows_to b rows) (transfers_in t)) ≡ rows + new_in (lines_of (rows_to b rows)) (lines_in (transfers_in t))
-  rows-asked s = omega (arith, fed-used (transfers_in t) s.sorted, rows-length b rows)
+module _ (r : Report) (t : List ℕ) where
+  pub rows-asked : Sorted r → used (fed_into r (transfers_in t)) ≡ used r + new_in (lines_of r) (lines_in (transfers_in t))
+  rows-asked s = fed-used (transfers_in t) s
 
-  pub new-few : new_in (lines_of (rows_to b rows)) (lines_in (transfers_in t)) ≤ 3 * (length t / 150)
+  pub new-few : new_in (lines_of r) (lines_in (transfers_in t)) ≤ 3 * (length t / 150)
   unfolding transfers_in
-  new-few =
-      omega (arith, new-most (lines_of (rows_to b rows)) (lines_in (transfers_to t (length t / 150))), lines-length (transfers_to t (length t / 150)), transfers-count t (length t / 150))
+  new-few = omega (arith, new-most (lines_of r) (lines_in (transfers_to t (length t / 150))), lines-length (transfers_to t (length t / 150)), transfers-count t (length t / 150))
 
-  pub new-all : length (new_above (lines_of (rows_to b rows)) [] (lines_in (transfers_in t))) ≡ new_in (lines_of (rows_to b rows)) (lines_in (transfers_in t))
-  new-all = new-count (lines_of (rows_to b rows)) (lines_in (transfers_in t)) (lines-filled (transfers_in t))
+  pub new-all : length (new_above (lines_of r) [] (lines_in (transfers_in t))) ≡ new_in (lines_of r) (lines_in (transfers_in t))
+  new-all = new-count (lines_of r) (lines_in (transfers_in t)) (lines-filled (transfers_in t))
 
-module _ (old : List Line) (bound : Line) (ks : List Line) {t ns : List ℕ} {k : ℕ} (most : ℕ) (e : Entered t ns k (take most (new_above old bound ks))) where
+module _ (old : List Line) (bound : Line) (ks : List Line) {lines : List Line} (most : ℕ) (e : lines ≡ take most (new_above old bound ks)) where
   -- as many as can be held, or all
-  pub held-least : k ≡ min most (length (new_above old bound ks))
-  held-least = sym (held-length e.holds_lines) ∙ ap length e.entered ∙ length-take most (new_above old bound ks)
+  pub held-least : length lines ≡ min most (length (new_above old bound ks))
+  held-least = ap length e ∙ length-take most (new_above old bound ks)
 
   -- above the last of them are those that were not held
-  pub held-last : {last : Line} → length ns ≡ most → 0 < k → most ≤ k → last ≡ line_numbered t (get_or ns (k - 1) 0)
-      → k + length (new_above old last ks) ≡ length (new_above old bound ks)
-  held-last {last} l p q f =
-      let h = e.holds_lines in
+  pub held-last : {last : Line} → 0 < length lines → most ≤ length lines → last ≡ get_or lines (length lines - 1) []
+      → length lines + length (new_above old last ks) ≡ length (new_above old bound ks)
+  held-last {last} p q f =
       let m = held-least in
+      let k = length lines in
       let a : last ≡ get_or (new_above old bound ks) (k - 1) [] =
-      f ∙ sym (held-line h (k - 1) (omega arith)) ∙ ap (λ (x : List Line). get_or x (k - 1) []) e.entered ∙ get_or-take most (new_above old bound ks) (k - 1) [] (omega (arith, h.held_most)) in
-      let d : new_above old last ks ≡ drop (suc (k - 1)) (new_above old bound ks) = rw a (new-after old bound ks (k - 1) (omega (arith, h.held_most))) in
-      rw (d, length-drop (suc (k - 1)) (new_above old bound ks)) (omega (arith, h.held_most))
+      f ∙ ap (λ (x : List Line). get_or x (k - 1) []) e ∙ get_or-take most (new_above old bound ks) (k - 1) [] (omega arith) in
+      let d : new_above old last ks ≡ drop (suc (k - 1)) (new_above old bound ks) = rw a (new-after old bound ks (k - 1) (omega arith)) in
+      rw (d, length-drop (suc (k - 1)) (new_above old bound ks)) (omega arith)

@@ -1,6 +1,6 @@
 -- Empty rows put in for new lines, the last line first: the lines left are below it, so what they bring stands before its row, and what stands behind it stays.
 -- Assumes nothing.
-use Rattle.std.proofs.Common.{◌≡◌, ℕ, zero, suc, ◌+◌, ◌-◌, ◌*◌, ◌<◌, ◌≤◌, Bool, true, false, cond, ◌||◌, List, [], ◌∷◌, ◌++◌, length, get_or, take, drop, sym, refl, ap, ◌∙◌, subst, ap₂, append_assoc, arith, length-append, length-drop, take-append-drop, drop_of_length-le, length-take-le, get_or-drop, get_or-take, take-suc, take-take, ext_get_or, drop_at}
+use Rattle.std.proofs.Common.{◌≡◌, ℕ, zero, suc, ◌+◌, ◌-◌, ◌*◌, ◌<◌, ◌≤◌, Bool, true, false, cond, ◌||◌, List, [], ◌∷◌, ◌++◌, length, get_or, take, drop, sym, refl, ap, ◌∙◌, subst, ap₂, append_assoc, arith, length-append, length-drop, take-append-drop, drop_of_length-le, length-take-le, get_or-drop, get_or-take, take-suc, ext_get_or, drop_at}
 use mathlib.Core.List.Memᴰ
 use mathlib.Core.List.{map-append, Memᴰ}
 use native.Mathlib.Nat.{one-le-pow}
@@ -18,8 +18,7 @@ use Rattle.month.specs.Sums.{nothing, plus}
 use Rattle.month.specs.Report.{ReportRow, Report, Sorted, lines_of}
 use Rattle.month.specs.Adding.{add_row, add_rows, among}
 use Rattle.month.specs.Bytes.{report_row_at, rows_to, report_row_bytes}
-use Rattle.month.specs.Lookup.{line_numbered, lines_numbered, spot_of, empty_rows}
-use Rattle.month.specs.Standing.{Held}
+use Rattle.month.specs.Lookup.{spot_of, empty_rows}
 use Rattle.month.proofs.Tables.{lines-ascend}
 use Rattle.month.proofs.Adding.{add-sorted, add-all-append}
 use Rattle.month.proofs.Feeding.{add_comm, add_at}
@@ -27,7 +26,6 @@ use Rattle.month.proofs.Reading.{Fits}
 use Rattle.month.proofs.Views.{rows-length, row_at, rows_same, rows-part, row-by-bytes, row-stored, run-stored, mem-at}
 use Rattle.month.proofs.Spots.{spot-most, spot-below, spot-above}
 use Rattle.month.proofs.Least.{mem-take, take-ascends}
-use Rattle.month.proofs.Noting.{map-take, held-length, held-line}
 
 -- a row below another is added before it
 add-front : (a : Report) (e x : ReportRow) (c : Report) → Below x.0 e.0 → add_row (a ++ (e ∷ c)) x ≡ add_row a x ++ (e ∷ c)
@@ -223,17 +221,15 @@ above-others [] k s x i = absurd (Memᴰ.not-nil i)
 above-others (y ∷ l) k (asc_cons f s) x (Memᴰ.head e) = rw e (f k (Memᴰ.append_right l (Memᴰ.head refl)))
 above-others (y ∷ l) k (asc_cons f s) x (Memᴰ.tail i) = above-others l k s x i
 
-module _ {t ns : List ℕ} {k : ℕ} (h : Held t ns k) (j j' : ℕ) (s : j' + 1 ≡ j) (g : j ≤ k) where
+module _ {l : List Line} (a : Ascending (λ x. x) l) (j j' : ℕ) (s : j' + 1 ≡ j) (g : j ≤ length l) where
   -- the lines up to the j-th, and that one
-  pub lines_next : lines_numbered t (take j ns) ≡ lines_numbered t (take j' ns) ++ (line_numbered t (get_or ns j' 0) ∷ [])
+  pub lines_next : take j l ≡ take j' l ++ (get_or l j' [] ∷ [])
   lines_next =
       let next : j ≡ suc j' = omega arith in
-      rw (next, take-suc ns j' 0 (omega (arith, h.held_most))) (map-append (line_numbered t) (take j' ns) (get_or ns j' 0 ∷ []))
+      rw (next, take-suc l j' [] (omega arith))
 
-  pub lines-below : (x : Line) → Memᴰ x (lines_numbered t (take j' ns)) → Below x (line_numbered t (get_or ns j' 0))
-  lines-below =
-      let part : take j (lines_numbered t (take k ns)) ≡ lines_numbered t (take j ns) = sym (map-take (line_numbered t) j (take k ns)) ∙ ap (lines_numbered t) (take-take j k ns g) in
-      above-others (lines_numbered t (take j' ns)) (line_numbered t (get_or ns j' 0)) (rw (part, lines_next) at (take-ascends j h.held_ascend))
+  pub lines-below : (x : Line) → Memᴰ x (take j' l) → Below x (get_or l j' [])
+  lines-below = above-others (take j' l) (get_or l j' []) (rw lines_next at (take-ascends j a))
 
-  pub line-held : Memᴰ (line_numbered t (get_or ns j' 0)) (lines_numbered t (take k ns))
-  line-held = rw (held-line h j' (omega arith)) at (mem-at (lines_numbered t (take k ns)) [] j' (omega (arith, held-length h)))
+  pub line-held : Memᴰ (get_or l j' []) l
+  line-held = mem-at l [] j' (omega arith)

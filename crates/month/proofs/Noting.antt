@@ -1,22 +1,21 @@
 -- Lines held by their numbers: a number put in at the place of its line holds the line in its place, and what is behind the last that can be held goes.
 -- Assumes nothing.
-use Rattle.std.proofs.Common.{◌≡◌, ℕ, zero, suc, ◌+◌, ◌-◌, ◌*◌, ◌/◌, ◌<◌, ◌≤◌, Bool, true, false, ◌&&◌, ltb, ◌⊎◌, List, [], ◌∷◌, ◌++◌, map, length, get_or, take, drop, set, sym, refl, ap, ◌∙◌, ap₂, inl, inr, ⊎_elim, le_of_suc-le-suc, not-suc-le-zero, add-one, arith, length-append, length-drop, length-take, length-take-le, take_all, get_or-take, take-take, take_at, ltb-true, le-ltb}
+use Rattle.std.proofs.Common.{◌≡◌, ℕ, zero, suc, ◌+◌, ◌-◌, ◌*◌, ◌/◌, ◌<◌, ◌≤◌, true, false, ◌⊎◌, List, [], ◌∷◌, ◌++◌, map, length, get_or, take, drop, set, sym, refl, ap, ◌∙◌, ap₂, inl, inr, ⊎_elim, le_of_suc-le-suc, not-suc-le-zero, add-one, arith, length-append, length-drop, length-take, length-take-le, take_all, get_or-take, take-take, take_at, le-ltb}
 use mathlib.Core.Logic.{⊎_map}
 use mathlib.Core.Bool.{and-false}
+use mathlib.Core.List.Memᴰ
 use mathlib.Core.List.{Memᴰ}
 use lib.ListN.{length-map}
 use lib.Seq.{sets, sets-eq, take-append-add}
-use Rattle.wire.specs.Same.{same}
 use Rattle.wire.proofs.Sets.{sets-front}
 use Rattle.wire.specs.Order.{lt_key}
-use Rattle.wire.specs.Ascending.{Ascending}
+use Rattle.wire.specs.Ascending.{Ascending, asc_nil}
 use Rattle.wire.proofs.Ascending.{put-mem}
 use Rattle.month.specs.Transfers.{Line}
-use Rattle.month.specs.Report.{lines_of, enter}
-use Rattle.month.specs.Bytes.{rows_to}
+use Rattle.month.specs.Report.{enter}
 use Rattle.month.specs.Adding.{among}
 use Rattle.month.specs.Lookup.{line_numbered, lines_numbered, spot_of, least_with}
-use Rattle.month.specs.Standing.{Held, Entered}
+use Rattle.month.specs.Standing.{Held, Entered, Picked}
 use Rattle.month.proofs.Views.{mem-at, drop-take}
 use Rattle.month.proofs.Least.{mem-take, take-ascends, enter-ascends}
 use Rattle.month.proofs.Spots.{spot-most, among-spot, enter-spot, enter-there}
@@ -107,25 +106,17 @@ keeps h p q (inr (l, e)) = (omega arith, omega arith, omega arith, inr (omega ar
 
 -- line n, whose place among the lines held is j
 module _ {t ns : List ℕ} {k : ℕ} (h : Held t ns k) (n j : ℕ) (place : j ≡ spot_of (line_numbered t n) (lines_numbered t (take k ns))) where
-  pub noted-among : among (line_numbered t n) (lines_numbered t (take k ns)) ≡ (ltb j k && same (line_numbered t (get_or ns j 0)) (line_numbered t n))
-  noted-among = (rw (← place, held-length h) at (among-spot (line_numbered t n) [] h.held_ascend)) ∙ go (ltb j k) refl
-    where
-      go : (b : Bool) → ltb j k ≡ b
-          → (b && same (get_or (lines_numbered t (take k ns)) j []) (line_numbered t n)) ≡ (b && same (line_numbered t (get_or ns j 0)) (line_numbered t n))
-      go true e = rw (held-line h j (ltb-true j k e))
-      go false e = refl
-
   -- it stands there
-  pub noted-there : (ltb j k && same (line_numbered t (get_or ns j 0)) (line_numbered t n)) ≡ true
+  pub noted-there : among (line_numbered t n) (lines_numbered t (take k ns)) ≡ true
       → take (length ns) (enter (line_numbered t n) (lines_numbered t (take k ns))) ≡ lines_numbered t (take k ns)
   noted-there e =
-      rw (enter-there (line_numbered t n) h.held_ascend (noted-among ∙ e))
+      rw (enter-there (line_numbered t n) h.held_ascend e)
       (take_all (length ns) (lines_numbered t (take k ns)) (omega (arith, held-length h, h.held_most)))
 
   -- it does not, and its number is put in
   pub noted : {ns' : List ℕ} (kept : ℕ) → n / 3 * 150 + 150 ≤ length t → length ns' ≡ length ns
       → kept ≤ k → j ≤ kept → kept < length ns → (kept ≡ k) ⊎ (suc kept ≡ length ns)
-      → (ltb j k && same (line_numbered t (get_or ns j 0)) (line_numbered t n)) ≡ false
+      → among (line_numbered t n) (lines_numbered t (take k ns)) ≡ false
       → take (suc kept) ns' ≡ take j ns ++ (n ∷ take (kept - j) (drop j ns))
       → Entered t ns' (kept + 1) (take (length ns) (enter (line_numbered t n) (lines_numbered t (take k ns))))
   noted {ns'} kept there len hk hj hm hc apart e =
@@ -155,7 +146,7 @@ module _ {t ns : List ℕ} {k : ℕ} (h : Held t ns k) (n j : ℕ) (place : j �
           ∙ map-take (line_numbered t) (length ns) (take j (take k ns) ++ (n ∷ drop j (take k ns)))
           ∙ ap (take (length ns)) (map-join (line_numbered t) (take j (take k ns)) (n ∷ drop j (take k ns))
           ∙ ap₂ (λ (x y : List Line). x ++ (line_numbered t n ∷ y)) (map-take (line_numbered t) j (take k ns)) (map-drop (line_numbered t) j (take k ns))
-          ∙ sym (rw (← place) at (enter-spot (line_numbered t n) h.held_ascend (noted-among ∙ apart))))
+          ∙ sym (rw (← place) at (enter-spot (line_numbered t n) h.held_ascend apart)))
 
       inside : (m : ℕ) → Memᴰ m (take (suc kept) ns') → m / 3 * 150 + 150 ≤ length t
       inside m i =
@@ -167,46 +158,54 @@ module _ {t ns : List ℕ} {k : ℕ} (h : Held t ns k) (n j : ℕ) (place : j �
       ascend : Ascending (λ x. x) (take (length ns) (enter (line_numbered t n) (lines_numbered t (take k ns))))
       ascend = take-ascends (length ns) (enter-ascends (line_numbered t n) h.held_ascend)
 
--- what is held when line n has been looked at
-abbrev pub Noted : (t ns : List ℕ) (k : ℕ) (b : List ℕ) (rows : ℕ) (bound : Line) (n : ℕ) (ns' : List ℕ) (k' : ℕ) → Type 0
-Noted t ns k b rows bound n ns' k' =
-    Entered t ns' k' (least_with (length ns) (lines_of (rows_to b rows)) bound (line_numbered t n) (lines_numbered t (take k ns)))
+-- lines picked from one table, by what they are
+pub picked : (t : List ℕ) {l m : List Line} → l ≡ m → ◌≡◌ {A = Picked} (record { table = t; lines = l }) (record { table = t; lines = m })
+picked t e = ap (λ (x : List Line). record { table = t; lines = x }) e
 
-module _ {t ns : List ℕ} {k : ℕ} (h : Held t ns k) (b : List ℕ) (rows : ℕ) (bound : Line) (n : ℕ) {line : Line} (e : line ≡ line_numbered t n) where
-  pub note-below : lt_key bound line ≡ false → Noted t ns k b rows bound n ns k
+-- no numbers yet
+pub none-held : (t ns : List ℕ) → Held t ns 0
+none-held t ns = record { held_most = omega arith; held_there = λ n i. absurd (Memᴰ.not-nil i); held_ascend = asc_nil }
+
+-- what is held when line n has been looked at
+abbrev pub Noted : (t ns : List ℕ) (k : ℕ) (old : List Line) (bound : Line) (n : ℕ) (ns' : List ℕ) (k' : ℕ) → Type 0
+Noted t ns k old bound n ns' k' =
+    Entered t ns' k' (least_with (length ns) old bound (line_numbered t n) (lines_numbered t (take k ns)))
+
+module _ {t ns : List ℕ} {k : ℕ} (h : Held t ns k) (old : List Line) (bound : Line) (n : ℕ) {line : Line} (e : line ≡ line_numbered t n) where
+  pub note-below : lt_key bound line ≡ false → Noted t ns k old bound n ns k
   note-below f =
       record {
-        entered = sym (not-above (length ns) (lines_of (rows_to b rows)) bound (line_numbered t n) (lines_numbered t (take k ns)) (rw e at f));
+        entered = sym (not-above (length ns) old bound (line_numbered t n) (lines_numbered t (take k ns)) (rw e at f));
         holds_lines = h;
       }
 
-  pub note-old : among line (lines_of (rows_to b rows)) ≡ true → Noted t ns k b rows bound n ns k
+  pub note-old : among line old ≡ true → Noted t ns k old bound n ns k
   note-old f =
       record {
-        entered = sym (not_new (length ns) (lines_of (rows_to b rows)) bound (line_numbered t n) (lines_numbered t (take k ns)) (rw e at f));
+        entered = sym (not_new (length ns) old bound (line_numbered t n) (lines_numbered t (take k ns)) (rw e at f));
         holds_lines = h;
       }
 
   -- above the bound, and not in the report
-  module _ (f : lt_key bound line ≡ true) (g : among line (lines_of (rows_to b rows)) ≡ false) where
-    enters : least_with (length ns) (lines_of (rows_to b rows)) bound (line_numbered t n) (lines_numbered t (take k ns))
+  module _ (f : lt_key bound line ≡ true) (g : among line old ≡ false) where
+    enters : least_with (length ns) old bound (line_numbered t n) (lines_numbered t (take k ns))
         ≡ take (length ns) (enter (line_numbered t n) (lines_numbered t (take k ns)))
     enters =
-        least-enter (length ns) (lines_of (rows_to b rows)) bound (line_numbered t n) (lines_numbered t (take k ns)) (rw e at f) (rw e at g)
+        least-enter (length ns) old bound (line_numbered t n) (lines_numbered t (take k ns)) (rw e at f) (rw e at g)
 
     module _ {j : ℕ} (q : j ≡ spot_of line (lines_numbered t (take k ns))) where
-      pub note-behind : length ns ≤ j → Noted t ns k b rows bound n ns k
+      pub note-behind : length ns ≤ j → Noted t ns k old bound n ns k
       note-behind d =
           record {
             entered = sym (enters ∙ least-behind (length ns) (line_numbered t n) h.held_ascend (omega (arith, held-length h, h.held_most)) (rw (q, e) at d));
             holds_lines = h;
           }
 
-      pub note-there : (ltb j k && same (line_numbered t (get_or ns j 0)) line) ≡ true → Noted t ns k b rows bound n ns k
+      pub note-there : among line (lines_numbered t (take k ns)) ≡ true → Noted t ns k old bound n ns k
       note-there d = record { entered = sym (enters ∙ noted-there h n j (rw e at q) (rw e at d)); holds_lines = h }
 
       pub note-put : {ns' : List ℕ} {kept : ℕ} → n / 3 * 150 + 150 ≤ length t → length ns' ≡ length ns → Keeps j k (length ns) kept
-          → (ltb j k && same (line_numbered t (get_or ns j 0)) line) ≡ false
+          → among line (lines_numbered t (take k ns)) ≡ false
           → take (suc kept) ns' ≡ take j ns ++ (n ∷ take (kept - j) (drop j ns))
-          → Noted t ns k b rows bound n ns' (kept + 1)
+          → Noted t ns k old bound n ns' (kept + 1)
       note-put {kept} there len w d g = rw enters (noted h n j (rw e at q) kept there len w.0 w.1 w.2 w.3 (rw e at d) g)

@@ -36,6 +36,11 @@ pub record Entered (t ns : List ℕ) (k : ℕ) (lines : List Line) : Type 0 wher
   pub entered : lines_numbered t (take k ns) ≡ lines
   pub holds_lines : Held t ns k
 
+-- lines picked from a table
+pub record Picked : Type 0 where
+  pub table : List ℕ
+  pub lines : List Line
+
 -- what a walk over a table from a place on has left: the transfers that wait, fed into what is there, give what all from that place on give
 pub record Walked (b t : List ℕ) (rows from to : ℕ) (wait : List ℕ) (waiting : ℕ) (b' : List ℕ) : Type 0 where
   pub further : from < to

@@ -5,6 +5,7 @@ ghost use Rattle.month.specs.Bytes.{rows_to, transfers_in};
 ghost use Rattle.month.specs.Lookup.{transfers_at, all_among};
 ghost use Rattle.month.specs.Standing.{Bears, Stands, PlacesIn, Walked};
 
+use crate::report::Report;
 use crate::{TRANSFER, empty, new, sums};
 
 // Adds waiting transfers whose lines the report has.
@@ -28,11 +29,11 @@ fn admit(report: &mut [u8], rows: usize, t: &[u8], wait: &[usize]) -> usize
     if wait.is_empty() {
         return rows;
     }
-    let mut numbers = [0usize; 3072];
-    let k = new::gather(report, rows, t, wait, &mut numbers);
-    empty::put_in(report, rows, t, &numbers, k);
-    post_waiting(report, rows + k, t, wait);
-    rows + k
+    let lines = new::gather(&Report::new(report, rows), t, wait);
+    let used = rows + lines.len();
+    empty::put_in(report, rows, &lines);
+    post_waiting(report, used, t, wait);
+    used
 }
 
 // Where a walk over a table ended, and how many transfers wait.

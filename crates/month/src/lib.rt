@@ -11,6 +11,7 @@ mod good;
 mod half;
 mod line;
 mod new;
+mod report;
 mod room;
 mod sums;
 
@@ -18,6 +19,8 @@ ghost use Rattle.std.specs.Prelude.{◌≡◌, MatchResult};
 ghost use Rattle.month.specs.Bytes.{feed};
 ghost use Rattle.month.specs.Call.{Feeds};
 ghost use Rattle.month.specs.Refusals.{number_of};
+
+use report::Report;
 
 // Bytes of a row of a fed table, and of a row of a report and the line that it begins with.
 pub(crate) const TRANSFER: usize = 150;
@@ -72,7 +75,7 @@ fn judge(report: &[u8], rows: usize, fed: u32, transfers: &[u8]) -> Result<(), R
     if !good::report(report, rows, fed) {
         return Err(Refusal::BadReport);
     }
-    if room::full(report, rows, transfers) {
+    if room::full(&Report::new(report, rows), report.len() / ROW, transfers) {
         return Err(Refusal::NoRoom);
     }
     let left = (LIMIT - fed) as usize;

@@ -1,4 +1,4 @@
-// The lines of a transfer, and where a line stands in a report.
+// The lines of a transfer, and whether it is summed.
 ghost use Rattle.std.specs.Prelude.{◌≡◌, ◌+◌, ◌*◌, ◌/◌, ◌<◌, ◌≤◌, length, take, drop};
 ghost use Rattle.wire.specs.Order.{lt_key};
 ghost use Rattle.month.specs.Transfers.{summed};
@@ -37,38 +37,4 @@ pub(crate) fn is_summed(t: &[u8], i: usize) -> bool
 {
     let at = i * TRANSFER;
     t[at + 141] == 1 && wire::u64_at(t, at + 142) <= wire::u64_at(t, at + 133)
-}
-
-// How many lines of a report's first rows are below a line. They ascend, so it is found by halving.
-pub(crate) fn spot(report: &[u8], rows: usize, line: &[u8]) -> usize
-    requires { Stands report.now rows }
-    ensures { result ≡ spot_of line.now (lines_of (rows_to report.now rows)) }
-{
-    halved(
-        rows,
-        |i|
-            requires { i * 118 + 66 ≤ length report.now }
-            ensures { result ≡ lt_key (take 66 (drop (i * 118) report.entry.now)) line.entry.now }
-        {
-            let at = i * ROW;
-            wire::less(&report[at..at + LINE], line)
-        },
-    )
-}
-
-// The row of a line, where the report has it.
-pub(crate) fn find(report: &[u8], rows: usize, line: &[u8]) -> Option<usize>
-    requires { Stands report.now rows }
-    ensures { result ≡ row_of line.now (lines_of (rows_to report.now rows)) }
-{
-    let place = spot(report, rows, line);
-    if rows <= place {
-        return None;
-    }
-    let at = place * ROW;
-    if wire::equal(line, &report[at..at + LINE]) {
-        Some(place)
-    } else {
-        None
-    }
 }

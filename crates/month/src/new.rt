@@ -1,36 +1,39 @@
-// The lines that transfers bring to a report, by their numbers, ascending and each once.
-ghost use Rattle.std.specs.Prelude.{◌≡◌, suc, ◌+◌, ◌-◌, ◌*◌, ◌/◌, ◌<◌, ◌≤◌, Bool, ◌&&◌, [], ◌∷◌, ◌++◌, length, take, nat_lt, slice_index, slice_range};
+// The lines that transfers bring to a report.
+ghost use Rattle.std.specs.Prelude.{◌≡◌, ℕ, suc, ◌+◌, ◌*◌, ◌/◌, ◌<◌, ◌≤◌, ◌&&◌, [], ◌∷◌, ◌++◌, length, take, nat_lt, slice_index, slice_index_or, slice_range};
+ghost use Rattle.wire.specs.Ascending.{Ascending};
 ghost use Rattle.wire.specs.Order.{lt_key};
 ghost use Rattle.wire.specs.Same.{same};
 ghost use Rattle.month.specs.Transfers.{touched};
 ghost use Rattle.month.specs.Report.{lines_of, lines_in};
-ghost use Rattle.month.specs.Bytes.{rows_to};
-ghost use Rattle.month.specs.Lookup.{fed_at, transfers_at, line_numbered, lines_numbered, spot_of, least_with, least_of, new_above};
-ghost use Rattle.month.specs.Standing.{Stands, PlacesIn, Held, Entered};
+ghost use Rattle.month.specs.Lookup.{fed_at, transfers_at, line_numbered, spot_of, least_with, least_of, new_above};
+ghost use Rattle.month.specs.Standing.{PlacesIn};
 
 use crate::half::halved;
-use crate::line;
+use crate::report::Report;
+use crate::{LINE, line};
+use std::marker::Model;
 
-// How many of the first k lines are below a line. They ascend, so it is found by halving.
-pub(crate) fn spot(t: &[u8], numbers: &[usize], k: usize, line: &[u8]) -> usize
-    requires { Held t.now numbers.now k }
-    ensures { result ≡ spot_of line.now (lines_numbered t.now (take k numbers.now)) }
-{
-    halved(
-        k,
-        |i|
-            requires { (i < length numbers.now) × (slice_index numbers.now i / 3 * 150 + 150 ≤ length t.now) }
-            ensures { result ≡ lt_key (line_numbered t.entry.now (slice_index numbers.entry.now i)) line.entry.now }
-        { wire::less(&line::numbered(t, numbers[i]), line) },
-    )
+// The most lines that are held at a time: three for each of 1,024 transfers.
+pub(crate) const MOST: usize = 3072;
+
+// Some lines of a table, ascending and each once, held by their numbers.
+#[derive(Drop)]
+pub(crate) struct Lines<'t> {
+    table: &'t [u8],
+    numbers: [usize; MOST],
+    count: usize,
 }
 
-// Whether the line at place j of the first k is this one.
-pub(crate) fn at_spot(t: &[u8], numbers: &[usize], k: usize, j: usize, line: &[u8]) -> bool
-    requires { Held t.now numbers.now k }
-    ensures { result ≡ nat_lt j k && same (line_numbered t.now (slice_index numbers.now j)) line.now }
-{
-    j < k && wire::equal(&line::numbered(t, numbers[j]), line)
+impl<'t> Model for Lines<'t> {
+    ghost use Rattle.std.specs.Prelude.{◌≡◌, length, take};
+    ghost use Rattle.month.specs.Lookup.{lines_numbered};
+    ghost use Rattle.month.specs.Standing.{Picked, Held};
+
+    ghost Value = { Picked };
+
+    ghost view = { λ s. record { table = s.table.now; lines = lines_numbered s.table.now (take s.count s.numbers) } };
+
+    ghost invariant = { λ s. Held s.table.now s.numbers s.count × (length s.numbers ≡ 3072) };
 }
 
 // Puts n in at place j of the first k.
@@ -42,79 +45,116 @@ fn insert(numbers: &mut [usize], j: usize, k: usize, n: usize)
     numbers[j] = n;
 }
 
-// Enters line n among the first k, if it is above the bound and stands neither there nor in the report. Where no more than these can be held, the last goes.
-fn note(
-    report: &[u8],
-    rows: usize,
-    t: &[u8],
-    n: usize,
-    bound: &[u8],
-    numbers: &mut [usize],
-    k: usize,
-) -> usize
-    requires { Stands report.now rows × (n / 3 * 150 + 150 ≤ length t.now) × Held t.now numbers.old k }
-    ensures { Entered t.now numbers.new result
-        (least_with (length numbers.old) (lines_of (rows_to report.now rows)) bound.now
-        (line_numbered t.now n) (lines_numbered t.now (take k numbers.old))) }
-{
-    let line = line::numbered(t, n);
-    if !wire::less(bound, &line) {
-        return k;
+impl<'t> Lines<'t> {
+    // No line of a table yet.
+    pub(crate) fn none_of(table: &'t [u8]) -> Lines<'t>
+        ensures { result ≡ record { table = table.now; lines = [] } }
+    {
+        Lines {
+            table,
+            numbers: [0; MOST],
+            count: 0,
+        }
     }
-    if line::find(report, rows, &line).is_some() {
-        return k;
+
+    pub(crate) fn clear(&mut self)
+        ensures { self.new ≡ record { table = self.old.table; lines = [] } }
+    {
+        self.count = 0;
     }
-    let j = spot(t, numbers, k, &line);
-    if numbers.len() <= j {
-        return k;
+
+    // How many lines there are. Who asks learns that they ascend.
+    pub(crate) fn len(&self) -> usize
+        ensures lines { result ≡ length self.now.lines }
+        ensures ascend { Ascending (λ x. x) self.now.lines }
+    {
+        self.count
     }
-    if at_spot(t, numbers, k, j, &line) {
-        return k;
+
+    pub(crate) fn line(&self, i: usize) -> [u8; LINE]
+        requires { i < length self.now.lines }
+        ensures line { result ≡ slice_index_or self.now.lines i [] }
+        ensures bytes { length result ≡ 66 }
+    {
+        line::numbered(self.table, self.numbers[i])
     }
-    let kept = if k < numbers.len() { k } else { k - 1 };
-    insert(numbers, j, kept, n);
-    kept + 1
+
+    // How many lines are below a line. They ascend, so it is found by halving.
+    fn spot(&self, line: &[u8]) -> usize
+        ensures { result ≡ spot_of line.now self.now.lines }
+    {
+        halved(
+            self.count,
+            |i|
+                requires { i < length self.now.lines }
+                ensures { result ≡ lt_key (slice_index_or self.entry.now.lines i []) line.entry.now }
+            { wire::less(&self.line(i), line) },
+        )
+    }
+
+    // Whether this line stands at a place.
+    fn has_at(&self, place: usize, line: &[u8]) -> bool
+        ensures { result ≡ nat_lt place (length self.now.lines) && same (slice_index_or self.now.lines place []) line.now }
+    {
+        place < self.count && wire::equal(&self.line(place), line)
+    }
+
+    // Enters line n of the table, if it is above the bound and stands neither here nor in the report. Where no more can be held, the last goes.
+    fn enter(&mut self, report: &Report<'_>, n: usize, bound: &[u8])
+        requires { n / 3 * 150 + 150 ≤ length self.old.table }
+        ensures { self.new ≡ record {
+          table = self.old.table;
+          lines = least_with 3072 (lines_of report.now) bound.now (line_numbered self.old.table n) self.old.lines;
+        } }
+    {
+        let line = line::numbered(self.table, n);
+        if !wire::less(bound, &line) {
+            return;
+        }
+        if report.find(&line).is_some() {
+            return;
+        }
+        let place = self.spot(&line);
+        if MOST <= place {
+            return;
+        }
+        if self.has_at(place, &line) {
+            return;
+        }
+        let kept = if self.count < MOST {
+            self.count
+        } else {
+            MOST - 1
+        };
+        insert(&mut self.numbers, place, kept, n);
+        self.count = kept + 1;
+    }
+
+    // Enters the lines of transfer i.
+    pub(crate) fn enter_all(&mut self, report: &Report<'_>, i: usize, bound: &[u8])
+        requires { i * 150 + 150 ≤ length self.old.table }
+        ensures { self.new ≡ record {
+          table = self.old.table;
+          lines = least_of 3072 (lines_of report.now) bound.now (touched (fed_at self.old.table i)) self.old.lines;
+        } }
+    {
+        let summed = line::is_summed(self.table, i);
+        self.enter(report, 3 * i, bound);
+        if summed {
+            self.enter(report, 3 * i + 1, bound);
+            self.enter(report, 3 * i + 2, bound);
+        }
+    }
 }
 
-// Enters the lines of transfer i.
-pub(crate) fn note_lines(
-    report: &[u8],
-    rows: usize,
-    t: &[u8],
-    i: usize,
-    bound: &[u8],
-    numbers: &mut [usize],
-    k: usize,
-) -> usize
-    requires { Stands report.now rows × (i * 150 + 150 ≤ length t.now) × Held t.now numbers.old k }
-    ensures { Entered t.now numbers.new result
-        (least_of (length numbers.old) (lines_of (rows_to report.now rows)) bound.now
-        (touched (fed_at t.now i)) (lines_numbered t.now (take k numbers.old))) }
+// The lines that waiting transfers of a table bring, as many as can be held.
+pub(crate) fn gather<'t>(report: &Report<'_>, t: &'t [u8], wait: &[usize]) -> Lines<'t>
+    requires { PlacesIn t.now wait.now }
+    ensures { result ≡ record { table = t.now; lines = take 3072 (new_above (lines_of report.now) [] (lines_in (transfers_at t.now wait.now))) } }
 {
-    let one = note(report, rows, t, 3 * i, bound, numbers, k);
-    if !line::is_summed(t, i) {
-        return one;
-    }
-    let two = note(report, rows, t, 3 * i + 1, bound, numbers, one);
-    note(report, rows, t, 3 * i + 2, bound, numbers, two)
-}
-
-// The lines that waiting transfers bring, as many as can be held; answers how many they are.
-pub(crate) fn gather(
-    report: &[u8],
-    rows: usize,
-    t: &[u8],
-    wait: &[usize],
-    numbers: &mut [usize],
-) -> usize
-    requires { Stands report.now rows × PlacesIn t.now wait.now }
-    ensures { Entered t.now numbers.new result
-        (take (length numbers.old) (new_above (lines_of (rows_to report.now rows)) []
-        (lines_in (transfers_at t.now wait.now)))) }
-{
-    let mut k = 0;
+    let mut lines = Lines::none_of(t);
     for i in wait {
-        k = note_lines(report, rows, t, *i, b"", numbers, k);
+        lines.enter_all(report, *i, b"");
     }
-    k
+    lines
 }

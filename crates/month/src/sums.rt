@@ -8,6 +8,7 @@ ghost use Rattle.month.specs.Bytes.{rows_to};
 ghost use Rattle.month.specs.Lookup.{fed_at, line_numbered, row_of, has_all};
 ghost use Rattle.month.specs.Standing.{Bears, Takes, Stands};
 
+use crate::report::Report;
 use crate::{ROW, TRANSFER, line};
 
 // Adds x to the sum from `at` on: the low half wraps, and the high half takes the carry.
@@ -38,11 +39,11 @@ fn add(report: &mut [u8], rows: usize, place: usize, debit: u64, credit: u64, fe
 }
 
 // The row of line n of a table, where the report has it.
-fn row(report: &[u8], rows: usize, t: &[u8], n: usize) -> Option<usize>
-    requires { Stands report.now rows × (n / 3 * 150 + 150 ≤ length t.now) }
-    ensures { result ≡ row_of (line_numbered t.now n) (lines_of (rows_to report.now rows)) }
+fn row(report: &Report<'_>, t: &[u8], n: usize) -> Option<usize>
+    requires { n / 3 * 150 + 150 ≤ length t.now }
+    ensures { result ≡ row_of (line_numbered t.now n) (lines_of report.now) }
 {
-    line::find(report, rows, &line::numbered(t, n))
+    report.find(&line::numbered(t, n))
 }
 
 // Adds transfer i where the report has all its lines, and says whether it has.
@@ -51,17 +52,18 @@ pub(crate) fn post(report: &mut [u8], rows: usize, t: &[u8], i: usize) -> bool
     ensures { (result ≡ has_all (rows_to report.old rows) (fed_at t.now i))
         × (rows_to report.new rows ≡ (if result then fed_into (rows_to report.old rows) (fed_at t.now i ∷ []) else rows_to report.old rows)) }
 {
-    let Some(own) = row(report, rows, t, 3 * i) else {
+    let lines = Report::new(report, rows);
+    let Some(own) = row(&lines, t, 3 * i) else {
         return false;
     };
     if !line::is_summed(t, i) {
         add(report, rows, own, 0, 0, 0, 1);
         return true;
     }
-    let Some(source) = row(report, rows, t, 3 * i + 1) else {
+    let Some(source) = row(&lines, t, 3 * i + 1) else {
         return false;
     };
-    let Some(destination) = row(report, rows, t, 3 * i + 2) else {
+    let Some(destination) = row(&lines, t, 3 * i + 2) else {
         return false;
     };
     let amount = wire::u64_at(t, i * TRANSFER + 133);

@@ -1,14 +1,12 @@
 -- What the rows left and the lines left give together, before the rows that are done, is always what all of them give. Each turn puts in the last line left.
 -- Assumes nothing.
-use Rattle.std.proofs.Common.{◌≡◌, ◌+◌, ◌-◌, ◌*◌, ◌≤◌, ◌++◌, length, get_or, take, sym, refl, ap, ◌∙◌, append-nil, arith}
+use Rattle.std.proofs.Common.{◌≡◌, ◌+◌, ◌-◌, ◌*◌, ◌≤◌, ◌++◌, length, take, sym, refl, ap, ◌∙◌, append-nil, take_all, arith}
 use Rattle.month.specs.Report.{Report, lines_of}
 use Rattle.month.specs.Adding.{add_rows}
 use Rattle.month.specs.Bytes.{rows_to}
-use Rattle.month.specs.Lookup.{spot_of, line_numbered, lines_numbered, empty_rows}
+use Rattle.month.specs.Lookup.{spot_of, empty_rows}
 use Rattle.month.proofs.Views.{lines-length, rows-part}
 use Rattle.month.proofs.Spots.{spot-most}
-use Rattle.month.proofs.Noting.{held_at}
-use Rattle.month.proofs.Numbered.{numbered-long}
 use Rattle.month.proofs.Moves.{copied}
 use Rattle.month.proofs.Merging.{put_in, front-sorted, front-among, rows_before, put_step, rows_none, rows_whole, lines_next, lines-below, line-held}
 use Rattle.month.proofs.empty.put_in.Goals as goal
@@ -18,85 +16,79 @@ use Rattle.month.proofs.empty.put_in.Goals.{After-spot-place}
 place-most : (c : After-spot-place) → c.spot-place.result ≤ c.loop-j.i
 place-most c =
     let l = c.loop-j in
-    omega (arith, c.spot-place.ensures, spot-most c.numbered-line.result (lines_of (rows_to l.report l.i)), lines-length l.report l.i)
-
-line-long : (c : After-spot-place) → length c.numbered-line.result ≡ 66
-line-long c = rw c.numbered-line.ensures (numbered-long c.args.t.now (get_or c.args.numbers.now (c.loop-j.j - 1) 0) (held_at c.requires.2 (c.loop-j.j - 1) (omega arith)))
+    omega (arith, rw c.new.ensures at c.spot-place.ensures, spot-most c.line-line.result (lines_of (rows_to l.report l.i)), lines-length l.report l.i)
 
 pub loop-j-init : goal.loop-j-init
 loop-j-init c =
     let b = c.args.report.now in
-    let n = c.args.rows + c.args.k in
-    let all = add_rows (rows_to b c.args.rows) (empty_rows (lines_numbered c.args.t.now (take c.args.k c.args.numbers.now))) in
-    (omega arith, refl, c.requires.0.sorted, c.requires.3, ap (λ (r : Report). all ++ r) (rows_none b n) ∙ append-nil all)
+    let ks = c.args.lines.now.lines in
+    let n = c.args.rows + length ks in
+    let all = add_rows (rows_to b c.args.rows) (empty_rows ks) in
+    let whole : take c.len-j.result ks ≡ ks = take_all c.len-j.result ks (omega (arith, c.len-j.ensures.lines)) in
+    (omega arith, refl, c.requires.0.sorted, c.requires.2, rw (whole, c.len-j.ensures.lines) (ap (λ (r : Report). all ++ r) (rows_none b n) ∙ append-nil all))
 
-pub offset_bounds-numbers-j : goal.offset_bounds-numbers-j
-offset_bounds-numbers-j c = omega (arith, c.requires.2.held_most)
+pub line-line-requires : goal.line-line-requires
+line-line-requires c = omega (arith, c.len-j.ensures.lines)
 
-pub bounds-numbers-j : goal.bounds-numbers-j
-bounds-numbers-j c = omega (arith, c.requires.2.held_most)
-
-pub numbered-line-requires : goal.numbered-line-requires
-numbered-line-requires c = held_at c.requires.2 (c.loop-j.j - 1) (omega arith)
-
-pub spot-place-requires : goal.spot-place-requires
-spot-place-requires c = record { inside = omega arith; sorted = c.loop-j.invariant.2 }
+pub new-requires : goal.new-requires
+new-requires c = record { inside = omega (arith, c.len-j.ensures.lines); sorted = c.loop-j.invariant.2 }
 
 pub overflow_mul-place : goal.overflow_mul-place
-overflow_mul-place c = omega (arith, place-most (goal.at.overflow_mul-place c).After-spot-place)
+overflow_mul-place c = omega (arith, place-most (goal.at.overflow_mul-place c).After-spot-place, c.len-j.ensures.lines)
 
 pub overflow_add-place : goal.overflow_add-place
-overflow_add-place c = omega (arith, place-most (goal.at.overflow_add-place c).After-spot-place)
+overflow_add-place c = omega (arith, place-most (goal.at.overflow_add-place c).After-spot-place, c.len-j.ensures.lines)
 
 pub overflow_add-place-in-loop-j : goal.overflow_add-place-in-loop-j
-overflow_add-place-in-loop-j c = omega (arith, place-most (goal.at.overflow_add-place-in-loop-j c).After-spot-place)
+overflow_add-place-in-loop-j c = omega (arith, place-most (goal.at.overflow_add-place-in-loop-j c).After-spot-place, c.len-j.ensures.lines)
 
 pub overflow_mul-place-in-loop-j : goal.overflow_mul-place-in-loop-j
-overflow_mul-place-in-loop-j c = omega (arith, place-most (goal.at.overflow_mul-place-in-loop-j c).After-spot-place)
+overflow_mul-place-in-loop-j c = omega (arith, place-most (goal.at.overflow_mul-place-in-loop-j c).After-spot-place, c.len-j.ensures.lines)
 
 pub copy_within-requires-clause-start_le_end : goal.copy_within-requires-clause-start_le_end
-copy_within-requires-clause-start_le_end c = omega (arith, place-most (goal.at.copy_within-requires-clause-start_le_end c).After-spot-place)
+copy_within-requires-clause-start_le_end c = omega (arith, place-most (goal.at.copy_within-requires-clause-start_le_end c).After-spot-place, c.len-j.ensures.lines)
 
 pub copy_within-requires-clause-dest_in_bounds : goal.copy_within-requires-clause-dest_in_bounds
-copy_within-requires-clause-dest_in_bounds c = omega (arith, place-most (goal.at.copy_within-requires-clause-dest_in_bounds c).After-spot-place)
+copy_within-requires-clause-dest_in_bounds c = omega (arith, place-most (goal.at.copy_within-requires-clause-dest_in_bounds c).After-spot-place, c.len-j.ensures.lines)
 
 pub overflow_add-place-in-loop-j-2 : goal.overflow_add-place-in-loop-j-2
-overflow_add-place-in-loop-j-2 c = omega (arith, place-most (goal.at.overflow_add-place-in-loop-j-2 c).After-spot-place)
+overflow_add-place-in-loop-j-2 c = omega (arith, place-most (goal.at.overflow_add-place-in-loop-j-2 c).After-spot-place, c.len-j.ensures.lines)
 
 pub overflow_mul-place-in-loop-j-2 : goal.overflow_mul-place-in-loop-j-2
-overflow_mul-place-in-loop-j-2 c = omega (arith, place-most (goal.at.overflow_mul-place-in-loop-j-2 c).After-spot-place)
+overflow_mul-place-in-loop-j-2 c = omega (arith, place-most (goal.at.overflow_mul-place-in-loop-j-2 c).After-spot-place, c.len-j.ensures.lines)
 
 pub put_row-requires : goal.put_row-requires
-put_row-requires c = (omega (arith, place-most (goal.at.put_row-requires c).After-spot-place, c.copy_within.ensures.len), line-long (goal.at.put_row-requires c).After-spot-place)
+put_row-requires c = (omega (arith, place-most (goal.at.put_row-requires c).After-spot-place, c.len-j.ensures.lines, c.copy_within.ensures.len), c.line-line.ensures.bytes)
 
 pub loop-j-preserved : goal.loop-j-preserved
 loop-j-preserved c =
     let l = c.loop-j in
-    let t = c.args.t.now in
-    let ns = c.args.numbers.now in
-    let h = c.requires.2 in
+    let ks = c.args.lines.now.lines in
     let b = l.report in
     let p = c.spot-place.result in
     let j = l.j - 1 in
-    let line = line_numbered t (get_or ns j 0) in
+    let line = c.line-line.result in
+    let this = c.line-line.ensures.line in
+    let n = c.args.rows + length ks in
     let step : j + 1 ≡ l.j = omega arith in
     let most = place-most (goal.at.loop-j-preserved c).After-spot-place in
-    let wide : length line ≡ 66 = numbered-long t (get_or ns j 0) (held_at h j (omega arith)) in
-    let room : (c.args.rows + c.args.k) * 118 ≤ length b = omega arith in
-    let seat : p ≡ spot_of line (lines_of (rows_to b l.i)) = rw (← c.numbered-line.ensures) c.spot-place.ensures in
+    let wide : length line ≡ 66 = c.line-line.ensures.bytes in
+    let inside : l.j ≤ length ks = omega (arith, c.len-j.ensures.lines) in
+    let room : n * 118 ≤ length b = omega arith in
+    let seat : p ≡ spot_of line (lines_of (rows_to b l.i)) = rw (← c.new.ensures) c.spot-place.ensures in
     let up : (p + j + 1) * 118 ≡ p * 118 + l.j * 118 = omega arith in
     let out : c.put_row.new.report ≡ put_in b p l.i l.j j line =
-    c.put_row.ensures ∙ rw (c.copy_within.ensures.after, copied b (p * 118) (l.i * 118) ((p + j + 1) * 118) (omega arith) (omega arith) (omega arith), up, c.numbered-line.ensures) in
+    c.put_row.ensures ∙ rw (c.copy_within.ensures.after, copied b (p * 118) (l.i * 118) ((p + j + 1) * 118) (omega arith) (omega arith) (omega arith), up) in
     let before : rows_to c.put_row.new.report p ≡ take p (rows_to b l.i) =
-    rw out (rows_before b p l.i l.j j (c.args.rows + c.args.k) line most step (omega arith) room wide ∙ sym (rows-part b l.i p most)) in
+    rw out (rows_before b p l.i l.j j n line most step (omega arith) room wide ∙ sym (rows-part b l.i p most)) in
     let whole =
-    put_step b p l.i l.j j (c.args.rows + c.args.k) line most step (omega arith) room wide l.invariant.2 (l.invariant.3 line (line-held h l.j j step (omega arith))) seat
-    (lines_numbered t (take j ns)) (lines-below h l.j j step (omega arith)) in (
+    put_step b p l.i l.j j n line most step (omega arith) room wide l.invariant.2 (l.invariant.3 line (rw this (line-held c.len-j.ensures.ascend l.j j step inside))) seat
+    (take j ks) (rw this (lines-below c.len-j.ensures.ascend l.j j step inside)) in (
       omega arith,
       c.put_row.auto.report ∙ c.copy_within.ensures.len ∙ l.invariant.1,
       rw before (front-sorted p l.invariant.2),
       λ x i. rw before (front-among x p (rows_to b l.i) (l.invariant.3 x i)),
-      rw (out, whole, ← lines_next h l.j j step (omega arith)) l.invariant.4,
+      rw (out, whole, this, ← lines_next c.len-j.ensures.ascend l.j j step inside) l.invariant.4,
     )
 
 pub returns : goal.returns
@@ -105,4 +97,4 @@ returns c =
     let l = c.loop-j in
     let none : l.j ≡ 0 = omega arith in
     let end : l.i + l.j ≡ l.i = omega arith in
-    sym (rows_whole l.report l.i (c.args.rows + c.args.k) (omega arith)) ∙ (rw (end, none) at l.invariant.4)
+    sym (rows_whole l.report l.i (c.args.rows + length c.args.lines.now.lines) (omega arith)) ∙ (rw (end, none) at l.invariant.4)

@@ -15,13 +15,13 @@ use Rattle.month.proofs.sums.post.Goals.{After-add-2, After-is_summed, After-row
 
 -- what was found is the row of each line
 own-row : (c : After-is_summed) → Some c.in-Some.own ≡ row_of (own (fed_at c.args.t.now c.args.i)) (lines_of (rows_to c.args.report.now c.args.rows))
-own-row c = rw line-own at c.in-Some.ensures
+own-row c = rw (line-own, c.new-lines.ensures) at c.in-Some.ensures
 
 source-row : (c : After-row-3) → Some c.in-Some-row.source ≡ row_of (source_line (fed_at c.args.t.now c.args.i)) (lines_of (rows_to c.args.report.now c.args.rows))
-source-row c = rw line-source at c.in-Some-row.ensures
+source-row c = rw (line-source, c.new-lines.ensures) at c.in-Some-row.ensures
 
 destination-row : (c : After-u64_at-amount) → Some c.in-Some-row-2.destination ≡ row_of (destination_line (fed_at c.args.t.now c.args.i)) (lines_of (rows_to c.args.report.now c.args.rows))
-destination-row c = rw line-destination at c.in-Some-row-2.ensures
+destination-row c = rw (line-destination, c.new-lines.ensures) at c.in-Some-row-2.ensures
 
 -- past the first test it is summed
 is-summed : (c : After-row-2) → summed (fed_at c.args.t.now c.args.i) ≡ true
@@ -55,7 +55,7 @@ pub returns-in_default : goal.returns-in_default
 returns-in_default c =
     let a = c.args in
     let r = rows_to a.report.now a.rows in
-    (sym (has-not-own r (fed_at a.t.now a.i) (row-none _ (lines_of r) (rw line-own at c.in_default.ensures))), refl)
+    (sym (has-not-own r (fed_at a.t.now a.i) (row-none _ (lines_of r) (rw (line-own, c.new-lines.ensures) at c.in_default.ensures))), refl)
 
 pub add-requires : goal.add-requires
 add-requires c =
@@ -79,7 +79,7 @@ returns-in_default-row c =
     let t = fed_at a.t.now a.i in
     let at = goal.at.returns-in_default-row c in
     let o = found b a.rows (own t) (own-row at.After-is_summed) in
-    (sym (has-not-source (rows_to b a.rows) t (is-summed at.After-row-2) o (row-none _ (lines_of (rows_to b a.rows)) (rw line-source at c.in_default-row.ensures))), refl)
+    (sym (has-not-source (rows_to b a.rows) t (is-summed at.After-row-2) o (row-none _ (lines_of (rows_to b a.rows)) (rw (line-source, c.new-lines.ensures) at c.in_default-row.ensures))), refl)
 
 pub returns-in_default-row-2 : goal.returns-in_default-row-2
 returns-in_default-row-2 c =
@@ -89,7 +89,7 @@ returns-in_default-row-2 c =
     let at = goal.at.returns-in_default-row-2 c in
     let o = found b a.rows (own t) (own-row at.After-is_summed) in
     let p = found b a.rows (source_line t) (source-row at.After-row-3) in
-    (sym (has-not-destination (rows_to b a.rows) t (is-summed at.After-row-2) o p (row-none _ (lines_of (rows_to b a.rows)) (rw line-destination at c.in_default-row-2.ensures))), refl)
+    (sym (has-not-destination (rows_to b a.rows) t (is-summed at.After-row-2) o p (row-none _ (lines_of (rows_to b a.rows)) (rw (line-destination, c.new-lines.ensures) at c.in_default-row-2.ensures))), refl)
 
 pub overflow_sub-amount : goal.overflow_sub-amount
 overflow_sub-amount c = fee-below (goal.at.overflow_sub-amount c).After-u64_at-fee
