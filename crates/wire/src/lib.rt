@@ -70,16 +70,36 @@ pub fn put_byte(d: &mut [u8], at: usize, x: u8)
     }
 }
 
+// Stores the bytes of a number, at once where they fit.
+fn put_bytes<const N: usize>(d: &mut [u8], at: usize, bytes: [u8; N])
+    ensures { d.new ≡ sets d.old at bytes.entry }
+{
+    if at < d.len() && N <= d.len() - at {
+        d[at..at + N].copy_from_slice(&bytes);
+    } else {
+        put(d, at, &bytes);
+    }
+}
+
 pub fn put_u32(d: &mut [u8], at: usize, x: u32)
     ensures { d.new ≡ sets d.old at (le_bytes 4 x) }
 {
-    put(d, at, &x.to_le_bytes());
+    put_bytes(d, at, x.to_le_bytes());
 }
 
 pub fn put_u64(d: &mut [u8], at: usize, x: u64)
     ensures { d.new ≡ sets d.old at (le_bytes 8 x) }
 {
-    put(d, at, &x.to_le_bytes());
+    put_bytes(d, at, x.to_le_bytes());
+}
+
+// Copies a run over one that is as long. Out of line, since a copy that is inlined brings a second path along, for runs that overlap.
+#[inline(never)]
+fn lay(d: &mut [u8], s: &[u8])
+    requires { length d.old ≡ length s.now }
+    ensures { d.new ≡ s.now }
+{
+    d.copy_from_slice(s);
 }
 
 // Copies a run into a row.
@@ -91,9 +111,9 @@ pub fn put(d: &mut [u8], at: usize, s: &[u8])
     }
     let room = d.len() - at;
     if s.len() <= room {
-        d[at..at + s.len()].copy_from_slice(s);
+        lay(&mut d[at..at + s.len()], s);
     } else {
-        d[at..].copy_from_slice(&s[..room]);
+        lay(&mut d[at..], &s[..room]);
     }
 }
 

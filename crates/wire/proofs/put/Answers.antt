@@ -14,11 +14,11 @@ returns-then-d-at c = sym (sets-past c.args.d.now c.args.at c.args.s.now c.if-d-
 pub returns-then-s-room : goal.returns-then-s-room
 returns-then-s-room c =
     let a = c.args in
-    rw c.copy_from_slice.ensures.after (sets-part a.d.now a.s.now a.at _ (omega arith) (omega arith))
+    rw c.lay.ensures (sets-part a.d.now a.s.now a.at _ (omega arith) (omega arith))
 
 pub returns-else-s-room : goal.returns-else-s-room
 returns-else-s-room c =
     let a = c.args in
     let room = length a.d.now - a.at in
-    rw c.copy_from_slice-else-s-room.ensures.after
+    rw c.lay-else-s-room.ensures
     (sets-part a.d.now (take room a.s.now) a.at room (sym (length-take-le room a.s.now (omega arith))) (omega arith) ∙ sets-cut a.d.now a.at a.s.now room (omega arith) (omega arith))

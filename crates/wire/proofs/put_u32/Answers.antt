@@ -8,4 +8,4 @@ use Rattle.wire.proofs.put_u32.Goals as goal
 pub returns : goal.returns
 returns c =
     let a = c.args in
-    c.put.ensures ∙ ap (sets a.d.now a.at) (c.to_le_bytes.ensures ∙ bytes-le 4 a.x)
+    c.put_bytes.ensures ∙ ap (sets a.d.now a.at) (c.to_le_bytes.ensures ∙ bytes-le 4 a.x)
