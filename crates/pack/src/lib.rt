@@ -109,7 +109,7 @@ fn two(s: &[u8], i: usize) -> u16
     requires { i + 2 ≤ length s.now }
     ensures { result ≡ le 2 s.now i }
 {
-    at(s, i) as u16 + at(s, i + 1) as u16 * 256
+    u16::from_le_bytes([s[i], s[i + 1]])
 }
 
 // Four bytes that are there, as a number.
@@ -117,7 +117,7 @@ fn four(s: &[u8], i: usize) -> u32
     requires { i + 4 ≤ length s.now }
     ensures { result ≡ le 4 s.now i }
 {
-    two(s, i) as u32 + two(s, i + 2) as u32 * 65536
+    u32::from_le_bytes([s[i], s[i + 1], s[i + 2], s[i + 3]])
 }
 
 // Where the instruction at an offset of a section ends; its header is there.
