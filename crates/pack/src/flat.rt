@@ -14,7 +14,7 @@ fn height_code(s: &[u8], at: usize) -> u64
     requires { at + 5 ≤ length s.now }
     ensures { result ≡ raised (height_at s.now at) }
 {
-    if super::at(s, at) == 0 {
+    if s[at] == 0 {
         return 0;
     }
     super::four(s, at + 1) as u64 + 1

@@ -4,7 +4,7 @@
 // where it was run, `section` shows a part of the pack, and `program`, `accounts` and `data` read an instruction back from its offset.
 #![tactic(auto)]
 
-ghost use Rattle.std.specs.Prelude.{◌≡◌, ◌+◌, ◌<◌, ◌≤◌, length, get_or, Err};
+ghost use Rattle.std.specs.Prelude.{◌≡◌, ◌+◌, ◌≤◌, length, Err};
 ghost use Rattle.wire.specs.Le.{le};
 ghost use Rattle.pack.specs.Items.{item_end};
 ghost use Rattle.pack.specs.Verdict.{verdict, refusal_number, place_of};
@@ -95,21 +95,13 @@ pub(crate) fn judge(pack: &[u8]) -> Result<(), Refusal>
     Ok(())
 }
 
-// A byte that is there: a walk over a section tests once that a header is there, and then reads its fields without further tests. (`wire` keeps such
-// readers to itself, since no public function has a `requires`.)
-fn at(s: &[u8], i: usize) -> u8
-    requires { i < length s.now }
-    ensures { result ≡ get_or s.now i 0 }
-{
-    s[i]
-}
-
-// Two bytes that are there, as a number.
+// Two bytes that are there, as a number: a walk over a section tests once that a header is there, and then reads its fields without further tests. (`wire` keeps
+// such readers to itself, since no public function has a `requires`.)
 fn two(s: &[u8], i: usize) -> u16
     requires { i + 2 ≤ length s.now }
     ensures { result ≡ le 2 s.now i }
 {
-    at(s, i) as u16 + at(s, i + 1) as u16 * 256
+    u16::from_le_bytes([s[i], s[i + 1]])
 }
 
 // Four bytes that are there, as a number.
@@ -117,7 +109,7 @@ fn four(s: &[u8], i: usize) -> u32
     requires { i + 4 ≤ length s.now }
     ensures { result ≡ le 4 s.now i }
 {
-    two(s, i) as u32 + two(s, i + 2) as u32 * 65536
+    u32::from_le_bytes([s[i], s[i + 1], s[i + 2], s[i + 3]])
 }
 
 // Where the instruction at an offset of a section ends; its header is there.

@@ -44,7 +44,7 @@ fn height_good(s: &[u8], at: usize) -> bool
     requires { at + 5 ≤ length s.now }
     ensures { result ≡ height_good s.now at }
 {
-    let flag = super::at(s, at);
+    let flag = s[at];
     if flag == 0 {
         return super::four(s, at + 1) == 0;
     }

@@ -1,8 +1,10 @@
--- Two numbers of two bytes, the second by its weight.
+-- The sum of four bytes, each by its weight.
 -- Assumes nothing.
-use Rattle.wire.proofs.Laws.{le_split}
-use mathlib.Core.Path.{sym}
+use Rattle.wire.specs.Le.{le}
+use native.Mathlib.Nat.{add-zero}
+use native.Mathlib.Omega.{arith}
 use Rattle.pack.proofs.four.Goals as goal
 
 pub returns : goal.returns
-returns c = rw (c.two.ensures, c.two-2.ensures) (sym (le_split 2 2 _ _))
+unfolding le
+returns c = rw c.from_le_bytes.ensures (simp add-zero (omega arith))

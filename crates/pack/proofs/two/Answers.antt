@@ -7,4 +7,4 @@ use Rattle.pack.proofs.two.Goals as goal
 
 pub returns : goal.returns
 unfolding le
-returns c = rw (c.at.ensures, c.at-2.ensures) (simp add-zero (omega arith))
+returns c = rw c.from_le_bytes.ensures (simp add-zero (omega arith))
