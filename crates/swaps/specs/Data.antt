@@ -5,7 +5,7 @@ use Rattle.wire.specs.Le.{le}
 use Rattle.swaps.specs.Draft.{in_order}
 
 -- `disc`: the first eight bytes as one number, if they are there
-unfoldable pub discriminator : List ℕ → Option ℕ
+abbrev pub discriminator : List ℕ → Option ℕ
 discriminator d = cond (leb 8 (length d)) (Some (le 8 d 0)) None
 
 -- a number that is there, and is x

@@ -1,6 +1,6 @@
 -- Meteora DLMM. The price-impact forms pass or fail `validate_swap_layout`, and end without a leg either way.
 -- Assumes nothing.
-use Rattle.std.specs.Prelude.{ℕ, zero, suc, ◌+◌, ◌-◌, ◌/◌, Bool, true, false, cond, ◌&&◌, ◌||◌, List, leb, ltb, eqb, length, get_or, Option, Some, None}
+use Rattle.std.specs.Prelude.{ℕ, zero, suc, ◌+◌, ◌-◌, ◌/◌, Bool, true, false, cond, ◌&&◌, ◌||◌, List, leb, ltb, eqb, length, get_or, is_some, unwrap_or, Option, Some, None}
 use Rattle.wire.specs.Le.{le}
 use Rattle.swaps.specs.declared.Swap.{Swap}
 use Rattle.swaps.specs.declared.Protocol.TheVariants.{Dlmm}
@@ -13,25 +13,28 @@ use Rattle.swaps.specs.Draft.{stated}
 abbrev pub tag_size : ℕ → Option ℕ
 tag_size tag = cond (ltb tag 3 || eqb tag 4) (Some 1) (cond (eqb tag 3) (Some 2) None)
 
--- a slice whose tag at `at` has so many bytes: where the next one starts, and `length`, the accounts that it claims; the length byte after the tag is there
-abbrev pub sized : List ℕ → ℕ → Option ℕ → Option Slice
-sized d at None = None
-sized d at (Some size) = when (ltb (at + size) (length d)) (Some (record { end = at + size + 1; claims = get_or d (at + size) 0 }))
+-- the bytes of the tag at `at`, where it is one
+abbrev pub size_at : List ℕ → ℕ → ℕ
+size_at d at = unwrap_or (tag_size (get_or d at 0)) 0
 
--- the slice at `at`: whole, and with a known tag
+-- a slice at `at` is whole: a known tag, and the length byte after it
+abbrev pub is_slice : List ℕ → ℕ → Bool
+is_slice d at = ltb at (length d) && (is_some (tag_size (get_or d at 0)) && ltb (at + size_at d at) (length d))
+
+-- `length`: the accounts that the slice at `at` claims
+abbrev pub claims : List ℕ → ℕ → ℕ
+claims d at = get_or d (at + size_at d at) 0
+
+-- the slice at `at`, where it is whole: where the next one starts, and the accounts that it claims
 abbrev pub slice_at : List ℕ → ℕ → Option Slice
-slice_at d at = when (ltb at (length d)) (sized d at (tag_size (get_or d at 0)))
-
--- go on with a slice
-abbrev pub with_slice : Option Slice → (Slice → Bool) → Bool
-with_slice None f = false
-with_slice (Some s) f = f s
+slice_at d at = when (is_slice d at) (Some (record { end = at + size_at d at + 1; claims = claims d at }))
 
 -- the loop of `validate_swap_layout`: `count` slices from `at` on are whole, and with `used` before them claim no more than `remaining` accounts
 unfoldable pub slices : List ℕ → ℕ → ℕ → ℕ → ℕ → Bool
 slices d remaining zero at used = true
 slices d remaining (suc count) at used =
-    with_slice (slice_at d at) (λ s. leb (used + s.claims) remaining && slices d remaining count s.end (used + s.claims))
+    let rest = slices d remaining count (at + size_at d at + 1) (used + claims d at) in
+    cond (is_slice d at && leb (used + claims d at) remaining) rest false
 
 -- what it asks of a v2 form: a count of four bytes at 24, no more slices than there can be of two bytes each, and the loop
 unfoldable pub slices_fit : ℕ → List ℕ → Bool

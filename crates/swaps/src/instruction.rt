@@ -16,7 +16,6 @@ pub(crate) struct Instruction<'a> {
 
 impl<'a> Instruction<'a> {
     // The first eight bytes as one number.
-    #[tactic(auto, unfolding(crate::specs::Data::discriminator))]
     pub fn discriminator(&self) -> Option<u64>
         ensures { result ≡ discriminator_of self.now.bytes.now }
     {
