@@ -8,13 +8,13 @@ ghost use Rattle.mints.specs.Order.{spot_in, Rising, put_in, sort_to, rows_bytes
 use crate::WIDTH;
 use crate::row::Row;
 
-// The place of row r among the first k of the ordered rows: before the first whose account is greater. They ascend, so it is found by halving.
-fn spot(table: &[Row], order: &[u32], k: usize, r: usize) -> usize
-    requires { (k ≤ length order.now) × (r < length table.now) × Fits table.now (take k order.now) × Rising table.now (take k order.now) }
-    ensures { result ≡ spot_in table.now r (take k order.now) }
+// The place of row r among ordered rows: before the first whose account is greater. They ascend, so it is found by halving.
+fn spot(table: &[Row], order: &[u32], r: usize) -> usize
+    requires { (r < length table.now) × Fits table.now order.now × Rising table.now order.now }
+    ensures { result ≡ spot_in table.now r order.now }
 {
     let mut low = 0;
-    let mut high = k;
+    let mut high = order.len();
     while low < high {
         let middle = (low + high) / 2;
         let q = order[middle] as usize;
@@ -32,11 +32,7 @@ fn insert(order: &mut [u32], j: usize, k: usize, r: u32)
     requires { (j ≤ k) × (k < length order.old) }
     ensures { take (suc k) order.new ≡ put_in (take k order.old) j r }
 {
-    let mut i = k;
-    while j < i {
-        i -= 1;
-        order[i + 1] = order[i];
-    }
+    order.copy_within(j..k, j + 1);
     order[j] = r;
 }
 
@@ -50,19 +46,19 @@ pub(crate) fn sort(table: &[Row], rows: usize, order: &mut [u32]) -> usize
         if !table[r].state.has_mint() {
             continue;
         }
-        let j = spot(table, order, k, r);
+        let j = spot(table, &order[..k], r);
         insert(order, j, k, r as u32);
         k += 1;
     }
     k
 }
 
-// Writes the first k of the ordered rows: account, mint, mark.
-pub(crate) fn write_rows(table: &[Row], order: &[u32], k: usize, out: &mut [u8])
-    requires { (k ≤ length order.now) × (k ≤ 65536) × Fits table.now (take k order.now) }
-    ensures { out.new ≡ sets out.old 0 (rows_bytes table.now (take k order.now)) }
+// Writes the ordered rows: account, mint, mark.
+pub(crate) fn write_rows(table: &[Row], order: &[u32], out: &mut [u8])
+    requires { (length order.now ≤ 65536) × Fits table.now order.now }
+    ensures { out.new ≡ sets out.old 0 (rows_bytes table.now order.now) }
 {
-    for j in 0..k {
+    for j in 0..order.len() {
         let row = &table[order[j] as usize];
         wire::put(out, j * WIDTH, row.account());
         wire::put(out, j * WIDTH + 32, row.mint());

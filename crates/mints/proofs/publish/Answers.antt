@@ -1,6 +1,6 @@
 -- The three calls write what they promise: the ordered rows, their bytes, and the mints by key index; ordered rows are whole rows of the table.
 use Rattle.mints.proofs.Sorting.{sort-fits, sort-length}
-use lib.ListN.{length}
+use lib.ListN.{length, length-take}
 use mathlib.Core.Path.{◌≡◌, ◌∙◌}
 use native.Mathlib.Omega.{arith}
 use Rattle.mints.proofs.publish.Goals as goal
@@ -12,8 +12,7 @@ write_rows-requires c =
     let n = c.args.rows in
     let q = sort.ensures in
     let o : length sort.new.order ≡ 257 = sort.auto.order in (
-      omega (arith, q.0, sort-length t n, o),
-      omega (arith, q.0, sort-length t n),
+      simp length-take (omega (arith, q.0, sort-length t n)),
       rw q.1 (sort-fits t n (omega arith) (omega arith)),
     )
 

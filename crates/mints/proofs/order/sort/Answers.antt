@@ -21,7 +21,7 @@ pub spot-j-requires : goal.spot-j-requires
 spot-j-requires c =
     let l = c.loop-r in
     let t = c.args.table.now in
-    rw l.invariant.3 (omega arith, omega arith, sort-fits t l.r (omega arith) (omega arith), sort-rising t l.r)
+    rw l.invariant.3 (omega arith, sort-fits t l.r (omega arith) (omega arith), sort-rising t l.r)
 
 pub insert-requires : goal.insert-requires
 insert-requires c =

@@ -2,6 +2,7 @@
 use Rattle.mints.proofs.Writing.{row-length, rows_next, rows-more, row_put}
 use Rattle.mints.specs.Order.{row_bytes, rows_bytes}
 use Rattle.wire.proofs.Sets.{sets-next}
+use lib.Seq.{take-length}
 use lib.ListN.{length, get_or, take}
 use Prim.Native.Nat.{◌*◌, ◌<◌}
 use mathlib.Core.Path.{◌≡◌, refl, ◌∙◌}
@@ -18,7 +19,7 @@ loop-j-preserved c =
     let l = c.loop-j in
     let a = c.args in
     let r = get_or a.order.now l.j 0 in
-    let n : l.j < length a.order.now = omega (arith, c.requires.0) in
+    let n : l.j < length a.order.now = omega arith in
     let x = c.account.ensures.1 in
     let y = c.mint.ensures.1 in (
       c.put_byte.auto.d ∙ c.put-in-loop-j.auto.d ∙ c.put.auto.d ∙ l.invariant.0,
@@ -32,5 +33,5 @@ shape_of-out c = c.loop-j.invariant.0
 pub returns : goal.returns
 returns c =
     let l = c.loop-j in
-    let n : l.j ≡ c.args.k = omega arith in
-    rw n at l.invariant.2
+    let n : l.j ≡ length c.args.order.now = omega arith in
+    l.invariant.2 ∙ rw (n, take-length c.args.order.now)
