@@ -69,11 +69,6 @@ module _ {t ns : List ℕ} {k : ℕ} (h : Held t ns k) where
   pub held-length : length (lines_numbered t (take k ns)) ≡ k
   held-length = length-map (take k ns) (line_numbered t) ∙ length-take-le k ns h.held_most
 
-  pub held-line : (j : ℕ) → j < k → get_or (lines_numbered t (take k ns)) j [] ≡ line_numbered t (get_or ns j 0)
-  held-line j p =
-      let m = length-take-le k ns h.held_most in
-      map_at (line_numbered t) 0 [] (take k ns) j (omega arith) ∙ ap (line_numbered t) (get_or-take k ns j 0 p)
-
 -- where a line is not one to be entered, or stands there, or is above all that can be held, the lines stay
 module _ (most : ℕ) (old : List Line) (bound k : Line) (l : List Line) where
   pub not-above : lt_key bound k ≡ false → least_with most old bound k l ≡ l
