@@ -1,7 +1,8 @@
 -- Lines held by their numbers: a number put in at the place of its line holds the line in its place, and what is behind the last that can be held goes.
 -- Assumes nothing.
-use Rattle.std.proofs.Common.{◌≡◌, ℕ, zero, suc, ◌+◌, ◌-◌, ◌*◌, ◌/◌, ◌<◌, ◌≤◌, true, false, ◌⊎◌, List, [], ◌∷◌, ◌++◌, map, length, get_or, take, drop, set, sym, refl, ap, ◌∙◌, ap₂, inl, inr, ⊎_elim, le_of_suc-le-suc, not-suc-le-zero, add-one, arith, length-append, length-drop, length-take, length-take-le, take_all, get_or-take, take-take, take_at, le-ltb}
-use mathlib.Core.Logic.{⊎_map}
+use Rattle.std.proofs.Common.{◌≡◌, ℕ, zero, suc, ◌+◌, ◌-◌, ◌*◌, ◌/◌, ◌<◌, ◌≤◌, min, true, false, ◌⊎◌, List, [], ◌∷◌, ◌++◌, map, length, get_or, take, drop, set, sym, refl, ap, ◌∙◌, ap₂, inl, inr, ⊎_elim, le_of_suc-le-suc, not-suc-le-zero, add-one, arith, length-append, length-drop, length-take, length-take-le, take_all, get_or-take, take-take, take_at, le-ltb}
+use native.Mathlib.Decide.{dec_lt}
+use mathlib.Core.Logic.{by_cases, ⊎_map}
 use mathlib.Core.Bool.{and-false}
 use mathlib.Core.List.Memᴰ
 use mathlib.Core.List.{Memᴰ}
@@ -69,11 +70,6 @@ module _ {t ns : List ℕ} {k : ℕ} (h : Held t ns k) where
   pub held-length : length (lines_numbered t (take k ns)) ≡ k
   held-length = length-map (take k ns) (line_numbered t) ∙ length-take-le k ns h.held_most
 
-  pub held-line : (j : ℕ) → j < k → get_or (lines_numbered t (take k ns)) j [] ≡ line_numbered t (get_or ns j 0)
-  held-line j p =
-      let m = length-take-le k ns h.held_most in
-      map_at (line_numbered t) 0 [] (take k ns) j (omega arith) ∙ ap (line_numbered t) (get_or-take k ns j 0 p)
-
 -- where a line is not one to be entered, or stands there, or is above all that can be held, the lines stay
 module _ (most : ℕ) (old : List Line) (bound k : Line) (l : List Line) where
   pub not-above : lt_key bound k ≡ false → least_with most old bound k l ≡ l
@@ -100,9 +96,12 @@ least-behind most k {l} s h p =
 abbrev pub Keeps : (j k most kept : ℕ) → Type 0
 Keeps j k most kept = (kept ≤ k) × (j ≤ kept) × (kept < most) × ((kept ≡ k) ⊎ (suc kept ≡ most))
 
-pub keeps : {j k most kept : ℕ} → j ≤ k → j < most → k ≤ most → ((k < most) × (kept ≡ k)) ⊎ ((most ≤ k) × (kept ≡ k - 1)) → Keeps j k most kept
-keeps h p q (inl (l, e)) = (omega arith, omega arith, omega arith, inl e)
-keeps h p q (inr (l, e)) = (omega arith, omega arith, omega arith, inr (omega arith))
+pub keeps : {j k most kept : ℕ} → j ≤ k → j < most → k ≤ most → kept ≡ min k (most - 1) → Keeps j k most kept
+keeps {j} {k} {most} {kept} h p q e =
+    by_cases
+    (dec_lt k most)
+    (λ (l : k < most). (omega arith, omega arith, omega arith, inl (omega arith)))
+    (λ (l : ¬ (k < most)). (omega arith, omega arith, omega arith, inr (omega arith)))
 
 -- line n, whose place among the lines held is j
 module _ {t ns : List ℕ} {k : ℕ} (h : Held t ns k) (n j : ℕ) (place : j ≡ spot_of (line_numbered t n) (lines_numbered t (take k ns))) where

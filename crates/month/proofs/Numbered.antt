@@ -1,8 +1,6 @@
 -- The lines of a table by number: the mint and its flag, an account behind its flag, and whether a transfer is summed. Assumes nothing.
 use Rattle.std.proofs.Common.{◌≡◌, ℕ, zero, suc, ◌+◌, ◌-◌, ◌*◌, ◌/◌, ◌%◌, ◌<◌, ◌≤◌, Bool, true, false, cond, eqb, leb, ◌≢◌, List, [], ◌∷◌, ◌++◌, length, get_or, take, drop, set, sym, refl, ap, ◌∙◌, ap₂, append-nil, zero-add, arith, length-append, length-drop, drop_of_length-le, length-take-le, drop-cons, take_at, eq-eqb, ne_eqb}
-use mathlib.Core.Logic.{by_cases}
 use mathlib.Core.Bool.{false≢true}
-use native.Mathlib.Decide.{dec_lt}
 use mathlib.Core.Option.{none, some}
 use lib.Seq.{sets, sets-eq, set_at, append_snoc}
 use Rattle.wire.specs.Zeros.{zeros}
@@ -85,26 +83,6 @@ numbered-account s n h = go (n / 3 * 150) (n % 3) h (omega arith)
 pub numbered-mint : (s : List ℕ) (n : ℕ) → n % 3 ≡ 0 → line_numbered s n ≡ (fed_at s (n / 3)).mint ++ zeros 33
 unfolding line_numbered line_of own
 numbered-mint s n e = rw e
-
--- a line has 66 bytes
-pub numbered-long : (s : List ℕ) (n : ℕ) → n / 3 * 150 + 150 ≤ length s → length (line_numbered s n) ≡ 66
-numbered-long s n h =
-    by_cases
-    (dec_lt 0 (n % 3))
-    (λ (p : 0 < n % 3). rw (numbered-account s n (λ e. absurd (omega arith))) account)
-    (λ (p : ¬ (0 < n % 3)). rw (numbered-mint s n (omega arith)) mint)
-  where
-    m : List ℕ
-    m = (fed_at s (n / 3)).mint
-
-    from : ℕ
-    from = n / 3 * 150 + 4 + n % 3 * 32
-
-    mint : length (m ++ zeros 33) ≡ 66
-    mint = omega (arith, length-append m (zeros 33), mint-long s (n / 3 * 150) h)
-
-    account : length (m ++ (1 ∷ take 32 (drop from s))) ≡ 66
-    account = omega (arith, length-append m (1 ∷ take 32 (drop from s)), mint-long s (n / 3 * 150) h, length-take-le 32 (drop from s) (omega (arith, length-drop from s)))
 
 -- the three lines of a transfer
 module _ (s : List ℕ) (i : ℕ) where

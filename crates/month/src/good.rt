@@ -3,7 +3,7 @@ ghost use Rattle.std.specs.Prelude.{◌≡◌, ◌+◌, ◌^◌, ◌≤◌, leng
 ghost use Rattle.wire.specs.Le.{le};
 ghost use Rattle.month.specs.Bytes.{report_row_at, good_table, good_row, good_report};
 
-use crate::{LINE, ROW, TRANSFER};
+use crate::{ACCOUNT, APART, CREDITS, DEBITS, FEE_FLAG, FEES, LINE, MINT, ROW, TRANSFER};
 
 // Whether a table has whole rows, and flags of 0 or 1.
 pub(crate) fn table(t: &[u8]) -> bool
@@ -14,7 +14,7 @@ pub(crate) fn table(t: &[u8]) -> bool
     }
     for i in 0..t.len() / TRANSFER {
         let at = i * TRANSFER;
-        if 1 < t[at + 100] || 1 < t[at + 141] {
+        if 1 < t[at + MINT] || 1 < t[at + FEE_FLAG] {
             return false;
         }
     }
@@ -35,11 +35,11 @@ fn row(report: &[u8], at: usize, fed: u32) -> bool
     ensures { result ≡ good_row fed (report_row_at report.now at) }
 {
     report[at] <= 1
-        && report[at + 33] <= 1
-        && small(report, at + 66)
-        && small(report, at + 82)
-        && small(report, at + 98)
-        && wire::u32_at(report, at + 114) <= fed
+        && report[at + ACCOUNT] <= 1
+        && small(report, at + DEBITS)
+        && small(report, at + CREDITS)
+        && small(report, at + FEES)
+        && wire::u32_at(report, at + APART) <= fed
 }
 
 // Whether a report of so many rows, after so many transfers, is one that this library may have left.

@@ -29,6 +29,26 @@ pub(crate) const ROW: usize = 118;
 
 pub(crate) const LINE: usize = 66;
 
+// Where a fed transfer has its mint, behind a flag, its amount and its fee, behind a flag.
+pub(crate) const MINT: usize = 100;
+
+pub(crate) const AMOUNT: usize = 133;
+
+pub(crate) const FEE_FLAG: usize = 141;
+
+pub(crate) const FEE: usize = 142;
+
+// Where a row of a report has its account, behind a flag, its sums and its count.
+pub(crate) const ACCOUNT: usize = 33;
+
+pub(crate) const DEBITS: usize = 66;
+
+pub(crate) const CREDITS: usize = 82;
+
+pub(crate) const FEES: usize = 98;
+
+pub(crate) const APART: usize = 114;
+
 // The most transfers that a report may be of.
 const LIMIT: u32 = 4294967295;
 

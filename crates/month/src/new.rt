@@ -121,11 +121,7 @@ impl<'t> Lines<'t> {
         if self.has_at(place, &line) {
             return;
         }
-        let kept = if self.count < MOST {
-            self.count
-        } else {
-            MOST - 1
-        };
+        let kept = self.count.min(MOST - 1);
         insert(&mut self.numbers, place, kept, n);
         self.count = kept + 1;
     }

@@ -9,7 +9,7 @@ ghost use Rattle.month.specs.Lookup.{fed_at, line_numbered, row_of, has_all};
 ghost use Rattle.month.specs.Standing.{Bears, Takes, Stands};
 
 use crate::report::Report;
-use crate::{ROW, TRANSFER, line};
+use crate::{AMOUNT, APART, CREDITS, DEBITS, FEE, FEES, ROW, TRANSFER, line};
 
 // Adds x to the sum from `at` on: the low half wraps, and the high half takes the carry.
 fn add_wide(d: &mut [u8], at: usize, x: u64)
@@ -31,11 +31,11 @@ fn add(report: &mut [u8], rows: usize, place: usize, debit: u64, credit: u64, fe
         (slice_index_or (lines_of (rows_to report.old rows)) place [], record { debits = debit; credits = credit; fees = fee; apart = apart }) }
 {
     let at = place * ROW;
-    add_wide(report, at + 66, debit);
-    add_wide(report, at + 82, credit);
-    add_wide(report, at + 98, fee);
-    let before = wire::u32_at(report, at + 114);
-    wire::put_u32(report, at + 114, before + apart);
+    add_wide(report, at + DEBITS, debit);
+    add_wide(report, at + CREDITS, credit);
+    add_wide(report, at + FEES, fee);
+    let before = wire::u32_at(report, at + APART);
+    wire::put_u32(report, at + APART, before + apart);
 }
 
 // The row of line n of a table, where the report has it.
@@ -66,8 +66,8 @@ pub(crate) fn post(report: &mut [u8], rows: usize, t: &[u8], i: usize) -> bool
     let Some(destination) = row(&lines, t, 3 * i + 2) else {
         return false;
     };
-    let amount = wire::u64_at(t, i * TRANSFER + 133);
-    let fee = wire::u64_at(t, i * TRANSFER + 142);
+    let amount = wire::u64_at(t, i * TRANSFER + AMOUNT);
+    let fee = wire::u64_at(t, i * TRANSFER + FEE);
     add(report, rows, own, amount, amount - fee, fee, 0);
     add(report, rows, source, amount, 0, 0, 0);
     add(report, rows, destination, 0, amount - fee, fee, 0);

@@ -1,5 +1,5 @@
 -- A line that is not above the bound, or stands in the report or among those held, changes nothing; any other is put in at its place.
-use Rattle.std.proofs.Common.{◌≡◌, ℕ, ◌+◌, ◌*◌, ◌/◌, ◌≤◌, false, List, [], length, take, sym, ◌∙◌, inl, inr, arith}
+use Rattle.std.proofs.Common.{◌≡◌, ℕ, ◌+◌, ◌*◌, ◌/◌, ◌≤◌, false, List, [], length, take, sym, ◌∙◌, arith}
 use Rattle.month.specs.Transfers.{Line}
 use Rattle.month.specs.Report.{lines_of}
 use Rattle.month.specs.Adding.{among}
@@ -8,7 +8,7 @@ use Rattle.month.specs.Standing.{Picked}
 use Rattle.month.proofs.Noting.{note-below, note-old, note-behind, note-there, note-put, held-length, Keeps, keeps, Noted, picked}
 use Rattle.month.proofs.Spots.{spot-most, row-is, among-spot}
 use Rattle.month.proofs.new.Lines.enter.Goals as goal
-use Rattle.month.proofs.new.Lines.enter.Goals.{After-insert, After-is_some, After-spot-place, After-has_at, Joined-self-lt-MOST, then-self-lt-MOST, else-self-lt-MOST}
+use Rattle.month.proofs.new.Lines.enter.Goals.{After-insert, After-is_some, After-spot-place, After-has_at, After-min-kept}
 
 -- whether the report has the line
 there : (c : After-is_some) → among c.numbered-line.result (lines_of c.args.report.now) ≡ c.is_some.result
@@ -26,7 +26,7 @@ amid c =
     among-spot c.numbered-line.result [] c.self.invariant.0.held_ascend ∙ sym (rw q at e)
 
 -- the place is among those that stay
-kept : (c : Joined-self-lt-MOST) → Keeps c.spot-place.result c.self.inside.count (length c.self.inside.numbers) c.if-self-lt-MOST.kept
+kept : (c : After-min-kept) → Keeps c.spot-place.result c.self.inside.count (length c.self.inside.numbers) c.min-kept.result
 kept c =
     let s = c.self in
     let e = rw (← s.view_is) at c.spot-place.ensures in
@@ -35,7 +35,7 @@ kept c =
     (omega (arith, e, spot-most c.numbered-line.result (lines_numbered s.inside.table.now (take s.inside.count s.inside.numbers)), held-length s.invariant.0))
     (omega arith)
     s.invariant.0.held_most
-    (elim c.if-self-lt-MOST.branch [ then-self-lt-MOST w ↦ inl (omega arith, w.kept-is) | else-self-lt-MOST w ↦ inr (omega arith, omega arith) ])
+    (rw m c.min-kept.ensures)
 
 -- a line that changes nothing
 stays : {t ns : List ℕ} {k : ℕ} (old : List Line) (bound : Line) (n : ℕ) → length ns ≡ 3072 → Noted t ns k old bound n ns k
@@ -77,16 +77,16 @@ returns-then-has_at c =
 
 pub insert-requires : goal.insert-requires
 insert-requires c =
-    let k = kept (goal.at.insert-requires c).Joined-self-lt-MOST in
+    let k = kept (goal.at.insert-requires c).After-min-kept in
     (k.1, k.2)
 
 -- what is held with the line put in
 put : (c : After-insert)
     → among c.numbered-line.result (lines_of c.args.report.now) ≡ false
     → c.spot-place.result ≡ spot_of c.numbered-line.result (lines_numbered c.self.inside.table.now (take c.self.inside.count c.self.inside.numbers))
-    → Keeps c.spot-place.result c.self.inside.count (length c.self.inside.numbers) c.if-self-lt-MOST.kept
+    → Keeps c.spot-place.result c.self.inside.count (length c.self.inside.numbers) c.min-kept.result
     → among c.numbered-line.result (lines_numbered c.self.inside.table.now (take c.self.inside.count c.self.inside.numbers)) ≡ false
-    → Noted c.self.inside.table.now c.self.inside.numbers c.self.inside.count (lines_of c.args.report.now) c.args.bound.now c.args.n c.insert.new.numbers (c.if-self-lt-MOST.kept + 1)
+    → Noted c.self.inside.table.now c.self.inside.numbers c.self.inside.count (lines_of c.args.report.now) c.args.bound.now c.args.n c.insert.new.numbers (c.min-kept.result + 1)
 put c new place k apart =
     let a = c.args in
     let s = c.self in
@@ -96,11 +96,11 @@ put c new place k apart =
 pub invariant_of-self : goal.invariant_of-self
 invariant_of-self c =
     let at = goal.at.invariant_of-self c in
-    let e = put at.After-insert (there at.After-is_some ∙ c.if-is_some.false) (seat at.After-spot-place) (kept at.Joined-self-lt-MOST) (amid at.After-has_at ∙ c.if-has_at.false) in
+    let e = put at.After-insert (there at.After-is_some ∙ c.if-is_some.false) (seat at.After-spot-place) (kept at.After-min-kept) (amid at.After-has_at ∙ c.if-has_at.false) in
     (e.holds_lines, c.insert.auto.numbers ∙ c.self.invariant.1)
 
 pub returns : goal.returns
 returns c =
     let at = goal.at.returns c in
-    let e = put at.After-insert (there at.After-is_some ∙ c.if-is_some.false) (seat at.After-spot-place) (kept at.Joined-self-lt-MOST) (amid at.After-has_at ∙ c.if-has_at.false) in
+    let e = put at.After-insert (there at.After-is_some ∙ c.if-is_some.false) (seat at.After-spot-place) (kept at.After-min-kept) (amid at.After-has_at ∙ c.if-has_at.false) in
     rw (← c.self.view_is) (picked c.self.inside.table.now (rw c.self.invariant.1 at e.entered))
