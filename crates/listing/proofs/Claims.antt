@@ -29,9 +29,9 @@ use Rattle.listing.specs.Puts.{PutsText}
 use Rattle.listing.proofs.Rows.{counted, row-end, row_inside, row-parent}
 use Rattle.listing.proofs.Drawing.{tree-refused}
 
--- for every input one number of bytes, and one content of the lent slice
-pub unique : {m at r s : ℕ} {out text o p : List ℕ} → PutsText m out at text o r → PutsText m out at text p s → (o ≡ p) × (r ≡ s)
-unique x y = (x.left ∙ sym y.left, x.behind ∙ sym y.behind)
+-- for every input one text
+pub unique : {m : ℕ} {text o p : List ℕ} → PutsText m text o → PutsText m text p → o ≡ p
+unique x y = x.left ∙ sym y.left
 
 -- less than the names
 pub short : (input : List ℕ) → length input < 88 → listing input ≡ refusal_line 1 0

@@ -3,7 +3,7 @@
 use mathlib.Core.Path.{◌≡◌, refl, sym, ap, ◌∙◌}
 use mathlib.Core.List.{List, [], ◌∷◌, ◌++◌, append-nil, append_assoc}
 use mathlib.Core.Logic.{◌≢◌}
-use Prim.Native.Nat.{ℕ, zero, suc, ◌+◌, ◌-◌, ◌*◌, ◌≤◌, ◌<◌}
+use Prim.Native.Nat.{ℕ, zero, suc, ◌+◌, ◌-◌, ◌≤◌, ◌<◌}
 use native.Mathlib.Nat.{zero-add}
 use native.Mathlib.Numerals.{add-one}
 use native.Mathlib.Omega.{arith}
@@ -27,36 +27,25 @@ use Rattle.finder.specs.declared.Found.{Found}
 use Rattle.finder.specs.Found.{FoundBlock}
 use Rattle.finder.specs.Children.{rising_below, is_child, children_of}
 use Rattle.finder.proofs.Rising.{rising-same}
-use Rattle.finder.proofs.Claims.{met_by, met-more}
 use Rattle.route.specs.declared.Answer.{Answer}
 use Rattle.route.specs.Tables.{positions_of}
 use Rattle.route.specs.Route.{Lent, route}
 use Rattle.route.specs.Order.{Succeeds}
 use Rattle.route.proofs.Filling.{few, positions-are}
-use Rattle.listing.specs.Decimal.{decimal}
-use Rattle.listing.specs.Listing.{newline, spaced, refusal_line, row_in, lent_room, route_of}
+use Rattle.listing.specs.Listing.{spaced, refusal_line, row_in, lent_room, route_of}
 use Rattle.listing.specs.Tree.{spaced_all, branch, first_lines, own_in, branch_of, children_in, branch_in, tree_head, drawn, tree}
-use Rattle.listing.specs.Puts.{PutsText}
-use Rattle.listing.proofs.Putting.{puts-next}
 use Rattle.listing.proofs.Rows.{good, counted, row-end, row_inside, row-parent}
 
 -- one number more
-spaced-append : (a b : List ℕ) → spaced_all (a ++ b) ≡ spaced_all a ++ spaced_all b
+pub spaced-append : (a b : List ℕ) → spaced_all (a ++ b) ≡ spaced_all a ++ spaced_all b
 unfolding spaced_all
 spaced-append [] b = refl
 spaced-append (x ∷ a) b = ap (λ (t : List ℕ). spaced x ++ t) (spaced-append a b) ∙ sym (append_assoc (spaced x) (spaced_all a) (spaced_all b))
 
-spaced-more : (l : List ℕ) (k : ℕ) → k < length l → spaced_all (take k l) ++ spaced (get_or l k 0) ≡ spaced_all (take (k + 1) l)
+pub spaced-more : (l : List ℕ) (k : ℕ) → k < length l → spaced_all (take k l) ++ spaced (get_or l k 0) ≡ spaced_all (take (k + 1) l)
 unfolding spaced_all
 spaced-more l k h =
     sym (ap (λ (j : ℕ). spaced_all (take j l)) (add-one k) ∙ ap spaced_all (take-suc l k 0 h) ∙ spaced-append (take k l) (get_or l k 0 ∷ []) ∙ rw (append-nil (spaced (get_or l k 0))))
-
-pub puts-number : (l : List ℕ) (k : ℕ) {from at next : ℕ} {out mid end : List ℕ} → k < length l → PutsText (k * 11) out from (spaced_all (take k l)) mid at
-    → PutsText 11 mid at (spaced (get_or l k 0)) end next → PutsText ((k + 1) * 11) out from (spaced_all (take (k + 1) l)) end next
-puts-number l k h p q =
-    let w = puts-next p q in
-    let b : k * 11 + 11 ≡ (k + 1) * 11 = omega arith in
-    rw (← spaced-more l k h, ← b) w
 
 -- the children in an array are read back from it
 pub front : (l : List ℕ) → take (length l) (filled l) ≡ l
@@ -68,27 +57,15 @@ unfolding filled
 front-room l = rw (length-append l (zeros (1024 - length l))) (omega arith)
 
 -- the line of an invocation, by what was found of it
-pub puts-found : (ps : List Position) (own : List ℕ) (i : ℕ) (r : Found) (list : List ℕ) (count : ℕ) {out o1 o2 o3 o4 end : List ℕ} {from a1 a2 a3 a4 next : ℕ}
-    → FoundBlock ps own i r → list ≡ filled (children_of ps i) → count ≡ length (children_of ps i)
-    → PutsText 10 out from (decimal r.end) o1 a1 → PutsText 11 o1 a1 (spaced r.inside) o2 a2 → PutsText 11 o2 a2 (spaced count) o3 a3
-    → PutsText (count * 11) o3 a3 (spaced_all (take count list)) o4 a4 → PutsText 1 o4 a4 newline end next
-    → PutsText (33 + length (children_of ps i) * 11) out from (branch_of ps own i) end next
-unfolding branch branch_of
-puts-found ps own i r list count f l k p q t u v =
-    let w = puts-next (puts-next (puts-next (puts-next p q) t) u) v in
-    let b : 10 + 11 + 11 + count * 11 + 1 ≡ 33 + count * 11 = omega arith in
-    let read : take count list ≡ children_of ps i = rw (l, k) (front (children_of ps i)) in
-    rw (b, f.ends, f.insides, read, k) at w
+pub branch-found : (ps : List Position) (own : List ℕ) (i : ℕ) (r : Found) (list : List ℕ) (count : ℕ)
+    → FoundBlock ps own i r → list ≡ filled (children_of ps i) → count ≡ length (children_of ps i) → branch r.end r.inside (take count list) ≡ branch_of ps own i
+unfolding branch_of
+branch-found ps own i r list count f l k = rw (f.ends, f.insides, l, k, front (children_of ps i))
 
--- one line more: its children are in no other line, so all lines together are not long
-pub puts-branch : (ps : List Position) (f : ℕ → List ℕ) (i : ℕ) {from at next : ℕ} {out mid end : List ℕ} → PutsText (i * 33 + length (met_by ps i) * 11) out from (first_lines f i) mid at
-    → PutsText (33 + length (children_of ps i) * 11) mid at (f i) end next → PutsText ((i + 1) * 33 + length (met_by ps (i + 1)) * 11) out from (first_lines f (i + 1)) end next
+-- one line more
+pub branches-more : (f : ℕ → List ℕ) (i : ℕ) → first_lines f (i + 1) ≡ first_lines f i ++ f i
 unfolding first_lines
-puts-branch ps f i p q =
-    let w = puts-next p q in
-    let e : first_lines f (i + 1) ≡ first_lines f i ++ f i = rw (add-one i) in
-    let b : i * 33 + length (met_by ps i) * 11 + (33 + length (children_of ps i) * 11) ≡ (i + 1) * 33 + length (met_by ps (i + 1)) * 11 = omega (arith, met-more ps i) in
-    rw (e, ← b) w
+branches-more f i = rw (add-one i)
 
 lines_same : (f g : ℕ → List ℕ) (n : ℕ) → ((i : ℕ) → i < n → f i ≡ g i) → first_lines f n ≡ first_lines g n
 unfolding first_lines

@@ -1,5 +1,6 @@
 pub mod Decimal
-pub mod Putting
+pub mod Texts
+pub mod Lengths
 pub mod Listing
 pub mod Room
 pub mod Rows

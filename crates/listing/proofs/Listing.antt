@@ -2,16 +2,13 @@
 -- Assumes nothing.
 use mathlib.Core.Path.{◌≡◌, refl, sym, ap, ◌∙◌}
 use mathlib.Core.List.{List, ◌++◌, append-nil, append_assoc}
-use Prim.Native.Nat.{ℕ, zero, suc, ◌+◌, ◌*◌}
+use Prim.Native.Nat.{ℕ, zero, suc, ◌+◌}
 use native.Mathlib.Nat.{zero-add, add-zero, add-suc, suc-add}
 use native.Mathlib.Numerals.{add-one}
-use native.Mathlib.Omega.{arith}
 use lib.ListN.{take, drop}
 use Rattle.route.specs.declared.Answer.{Answer}
 use Rattle.route.specs.Route.{lent, Leaves}
 use Rattle.listing.specs.Listing.{line, row_in, lines_from, listed, lent_room, route_of, listing}
-use Rattle.listing.specs.Puts.{PutsText}
-use Rattle.listing.proofs.Putting.{puts-next}
 
 -- one line more
 pub lines_more : (rows : List ℕ) (n i : ℕ) → lines_from rows (suc n) i ≡ lines_from rows n i ++ line (row_in rows (i + n))
@@ -21,14 +18,9 @@ lines_more rows (suc n) i =
     ap (λ (l : List ℕ). line (row_in rows i) ++ l) (lines_more rows n (suc i))
     ∙ rw (suc-add, add-suc) (sym (append_assoc (line (row_in rows i)) (lines_from rows n (suc i)) (line (row_in rows (suc (i + n))))))
 
--- a line put behind i others
-pub puts-line : (rows : List ℕ) (i : ℕ) {from at next : ℕ} {out mid end : List ℕ} → PutsText (i * 63) out from (lines_from rows i 0) mid at → PutsText 63 mid at (line (row_in rows i)) end next
-    → PutsText ((i + 1) * 63) out from (lines_from rows (i + 1) 0) end next
-puts-line rows i p q =
-    let w = puts-next p q in
-    let e : lines_from rows i 0 ++ line (row_in rows i) ≡ lines_from rows (i + 1) 0 = sym (rw (add-one i) (lines_more rows i 0 ∙ rw (zero-add i))) in
-    let b : i * 63 + 63 ≡ (i + 1) * 63 = omega arith in
-    rw (← e, ← b) w
+-- the lines of one row more
+pub lines-next : (rows : List ℕ) (i : ℕ) → lines_from rows (i + 1) 0 ≡ lines_from rows i 0 ++ line (row_in rows i)
+lines-next rows i = rw (add-one i) (lines_more rows i 0 ∙ rw (zero-add i))
 
 -- what a call of `route` with both parts of the input and the room that is lent leaves
 pub routed-by : (input : List ℕ) {names p t0 t1 t2 t3 t4 : List ℕ} {r : Answer} {o0 o1 o2 o3 o4 : List ℕ} → Leaves names p t0 t1 t2 t3 t4 r o0 o1 o2 o3 o4

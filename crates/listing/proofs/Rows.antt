@@ -88,7 +88,7 @@ parts i k true false p q = (omega arith, rw (ne_eqb ((i + (k * 4 + 16)) / 32 % 2
 parts i k false true p q = (omega arith, rw (eq-eqb ((i + (k * 4 + 32)) / 32 % 2) 1 (omega arith), ne_eqb ((i + (k * 4 + 32)) / 16 % 2) 1 (λ e. omega arith)))
 parts i k false false p q = (omega arith, rw (ne_eqb ((i + (k * 4 + 0)) / 32 % 2) 1 (λ e. omega arith), ne_eqb ((i + (k * 4 + 0)) / 16 % 2) 1 (λ e. omega arith)))
 
-inside-le : (ps : List Position) (own : List ℕ) (i : ℕ) → inside_of ps own i ≤ 3
+pub inside-le : (ps : List Position) (own : List ℕ) (i : ℕ) → inside_of ps own i ≤ 3
 unfolding inside_of
 inside-le ps own i = go (some_in (length ps) (within ps) i (λ y. has_transfer (get_or own y 0))) (some_in (length ps) (within ps) i (λ y. has_swap (get_or own y 0)))
   where

@@ -1,6 +1,6 @@
 -- The printed listing on values: an input, names and then a pack, gives the bytes that are printed.
 -- Assumes nothing.
-use Rattle.std.specs.Prelude.{ℕ, zero, suc, ◌+◌, ◌*◌, cond, List, [], ◌∷◌, ◌++◌, eqb, get_or, take, drop}
+use Rattle.std.specs.Prelude.{ℕ, Option, None, Some, zero, suc, ◌+◌, ◌*◌, cond, List, [], ◌∷◌, ◌++◌, eqb, get_or, take, drop}
 use Rattle.wire.specs.Le.{le}
 use Rattle.route.specs.declared.Answer.{Answer}
 use Rattle.route.specs.Widths.{mint_width, invocation_width, transfer_width, leg_width, action_width}
@@ -36,6 +36,11 @@ head a =
 -- a number of a row behind its flag, with a space in front: ` -` where the flag is 0
 unfoldable pub optional : List ℕ → ℕ → List ℕ
 optional row flag = cond (eqb (get_or row flag 0) 0) (32 ∷ 45 ∷ []) (spaced (le 4 row (flag + 1)))
+
+-- a number that may be absent, with a space in front: ` -` where it is
+unfoldable pub optional_text : Option ℕ → List ℕ
+optional_text None = 32 ∷ 45 ∷ []
+optional_text (Some x) = spaced x
 
 -- where the invocation of a row of table 1 stands: outer, inner, height
 unfoldable pub position : List ℕ → List ℕ

@@ -175,3 +175,74 @@ pub fn run<C: Call, R: Read, W: Write>(
     }
     writeln!(output, "{totals}")
 }
+
+#[cfg(test)]
+mod tests {
+    use super::*;
+    use std::test::Fail;
+
+    // An empty record, one that differs, and one that is too long, of four zeros.
+    const STORED: [u8; 17] = [0, 0, 0, 0, 1, 0, 0, 0, 7, 4, 0, 0, 0, 0, 0, 0, 0];
+
+    fn held(record: &[u8]) -> Result<(), Unfit> {
+        if record.is_empty() {
+            Ok(())
+        } else {
+            Err(Unfit)
+        }
+    }
+
+    #[derive(Drop)]
+    struct Passer;
+
+    impl Call for Passer {
+        type Difference = Unfit;
+
+        const LONGEST: u32 = 3;
+
+        const LONGER: TooLong = TooLong::Skipped;
+
+        fn again(&mut self, record: &[u8]) -> Result<(), Unfit> {
+            held(record)
+        }
+    }
+
+    #[derive(Drop)]
+    struct Leaver;
+
+    impl Call for Leaver {
+        type Difference = Unfit;
+
+        const LONGEST: u32 = 3;
+
+        const LONGER: TooLong = TooLong::Left;
+
+        fn again(&mut self, record: &[u8]) -> Result<(), Unfit> {
+            held(record)
+        }
+    }
+
+    #[test]
+    fn skips(rt: HostRuntime) -> Result<(), Fail> {
+        let mut output = Vec::new(rt.alloc());
+        run(rt.alloc(), &mut STORED.as_slice(), &mut output, &mut Passer)?;
+        let unfit = "cut off, or too long for this program";
+        let told = format!(in rt.alloc();
+            "record 1: {unfit}\nrecord 2: {unfit}\n3 answers, 2 different\n"
+        )?;
+        assert_eq!(rt; output.as_slice(), told.as_bytes());
+        Ok(())
+    }
+
+    #[test]
+    fn leaves(rt: HostRuntime) -> Result<(), Fail> {
+        let mut output = Vec::new(rt.alloc());
+        run(rt.alloc(), &mut STORED.as_slice(), &mut output, &mut Leaver)?;
+        let unfit = "cut off, or too long for this program";
+        let told = format!(in rt.alloc();
+            "record 1: {unfit}\nrecord 2: {unfit}\n4 answers, 2 different\n"
+        )?;
+        assert_eq!(rt; output.as_slice(), told.as_bytes());
+        Ok(())
+    }
+}

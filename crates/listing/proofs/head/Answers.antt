@@ -1,10 +1,10 @@
--- The words and numbers of the line are put, each behind the one before.
+-- The pieces are the line.
 -- Assumes nothing.
-use Rattle.listing.proofs.Putting.{puts-next}
-use Rattle.listing.specs.Listing.{head}
+use Rattle.std.proofs.Common.{arith, ◌∙◌}
+use Rattle.listing.proofs.Texts.{head-text}
 use Rattle.listing.proofs.head.Goals as goal
 
 pub returns : goal.returns
-unfolding head
 returns c =
-    puts-next (puts-next (puts-next (puts-next c.word-at.ensures c.counts-at.ensures) c.named-at.ensures) c.named-at-2.ensures) c.word.ensures
+    (rw c.in_ok-text.ensures.ok at c.in_ok-write.ensures.bytes)
+    ∙ head-text c.args.a.now (omega arith) (omega arith) (omega arith) (omega arith) (omega arith) (omega arith) (omega arith)

@@ -1,12 +1,9 @@
--- The lines of the rows before i stand one behind the other, each of at most 63 bytes.
+-- The lines of the rows before i stand behind what was there.
 -- Assumes nothing.
+use Rattle.std.proofs.Common.{◌≡◌, ◌++◌}
+use Rattle.std.specs.Prelude.{string_bytes}
 use Rattle.listing.specs.Listing.{lines_from}
-use Rattle.listing.specs.Puts.{PutsText}
-use Prim.Native.Nat.{◌*◌, ◌-◌, ◌≤◌}
 use Rattle.listing.proofs.lines.Given as goal
 
 abbrev pub invariant-loop-i : goal.invariant-loop-i
-invariant-loop-i l = (l.i ≤ l.n) × PutsText (l.i * 63) l.initial.out l.from (lines_from l.rows l.i 0) l.out l.at
-
-abbrev pub decreases-loop-i : goal.decreases-loop-i
-decreases-loop-i l = l.n - l.i
+invariant-loop-i l = string_bytes l.text ≡ string_bytes l.initial.text ++ lines_from l.rows l.i 0

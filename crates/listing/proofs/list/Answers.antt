@@ -16,6 +16,4 @@ listed-requires c =
 
 pub returns : goal.returns
 unfolding listing route_of
-returns c =
-    let r = c.routed-a in
-    rw (r.ensures.0, r.ensures.1) at c.listed.ensures
+returns c = rw (c.routed-a.ensures.0, c.routed-a.ensures.1) at c.listed.ensures

@@ -1,10 +1,8 @@
--- The word and the two numbers are put, each behind the one before.
+-- The pieces are the line.
 -- Assumes nothing.
-use Rattle.listing.proofs.Putting.{puts-next}
-use Rattle.listing.specs.Listing.{refusal_line}
+use Rattle.std.proofs.Common.{arith}
+use Rattle.listing.proofs.Texts.{refused-text}
 use Rattle.listing.proofs.refused.Goals as goal
 
 pub returns : goal.returns
-unfolding refusal_line
-returns c =
-    puts-next (puts-next c.named-at.ensures c.field-at.ensures) c.word.ensures
+returns c = let a = c.args.a.now in rw (← refused-text a.number a.place (omega arith) (omega arith)) c.format.ensures.ok

@@ -1,49 +1,54 @@
--- The lines before i stand one behind the other. Each has at most 33 bytes, and 11 for each child; no invocation is a child twice.
+-- The lines before i stand behind what was there.
 -- Assumes nothing.
-use lib.ListN.{length}
-use lib.Seq.{length-sets}
-use mathlib.Core.List.{List}
-use mathlib.Core.Path.{◌≡◌, ap, ◌∙◌}
-use Rattle.subtrees.specs.Subtrees.{positions}
-use Rattle.subtrees.proofs.Arrays.{positions-length}
-use Rattle.finder.proofs.Claims.{met_by, met-few}
-use Rattle.listing.proofs.Putting.{puts_none, puts-wider}
-use Rattle.listing.proofs.Drawing.{puts-branch}
+use Rattle.std.proofs.Common.{ℕ, ◌≡◌, ◌≤◌, List, ◌++◌, ◌∙◌, sym, ap, arith, append_assoc, append-nil, length}
+use Rattle.std.specs.Prelude.{string_bytes}
+use Rattle.finder.specs.Children.{children_of}
+use Rattle.finder.proofs.Claims.{children-few}
+use Rattle.subtrees.specs.Subtrees.{positions, taken}
+use Rattle.subtrees.proofs.Arrays.{positions-length, taken-all}
+use lib.Seq.{length-take-le}
 use Rattle.listing.specs.Tree.{branch_of, first_lines}
-use Prim.Native.Nat.{ℕ, ◌≤◌}
-use native.Mathlib.Omega.{arith}
+use Rattle.listing.proofs.Drawing.{branch-found, branches-more}
 use Rattle.listing.proofs.tree.branches.Goals as goal
 
--- no more than there are invocations
-few : (outer inner height : List ℕ) (n i : ℕ) → length (met_by (positions outer inner height n) i) ≤ n
-few outer inner height n i = omega (arith, met-few (positions outer inner height n) i, positions-length outer inner height n)
+-- how many children there are
+few : (outer inner height : List ℕ) (n i r : ℕ) → n ≤ 1024 → r ≡ length (children_of (positions outer inner height (taken n)) i) → r ≤ 1024
+few outer inner height n i r h e =
+    let q : r ≡ length (children_of (positions outer inner height n) i) = rw (taken-all n h) at e in
+    omega (arith, q, children-few (positions outer inner height n) i, positions-length outer inner height n)
 
 pub loop-i-init : goal.loop-i-init
 unfolding first_lines
-loop-i-init c = (omega arith, puts-wider _ (omega arith) (puts_none _ _))
+loop-i-init c = sym (append-nil _)
 
-pub branch-at-requires : goal.branch-at-requires
-branch-at-requires c =
-    let l = c.loop-i in
+pub slice_bounds-children-end : goal.slice_bounds-children-end
+slice_bounds-children-end c =
     let a = c.args in
-    (omega (arith, l.invariant.1.within, few a.outer.now a.inner.now a.height.now a.n l.i), omega arith)
+    let k = few a.outer.now a.inner.now a.height.now a.n c.loop-i.i c.children-count.result c.requires c.children-count.ensures.1 in
+    sym (length-take-le c.children-count.result c.children-count.new.list (omega (arith, k, c.children-count.array_long)))
+
+pub slice_bounds-list-end : goal.slice_bounds-list-end
+slice_bounds-list-end c =
+    let a = c.args in
+    omega (arith, few a.outer.now a.inner.now a.height.now a.n c.loop-i.i c.children-count.result c.requires c.children-count.ensures.1)
 
 pub loop-i-preserved : goal.loop-i-preserved
 loop-i-preserved c =
+    let a = c.args in
     let l = c.loop-i in
-    let a = c.args in
-    let ps = positions a.outer.now a.inner.now a.height.now a.n in
-    (omega arith, puts-branch ps (branch_of ps a.own.now) l.i l.invariant.1 c.branch-at.ensures)
-
-pub shape_of-out : goal.shape_of-out
-shape_of-out c =
-    let a = c.args in
-    let ps = positions a.outer.now a.inner.now a.height.now a.n in
-    ap length c.loop-i.invariant.1.left ∙ length-sets a.out.now a.from (first_lines (branch_of ps a.own.now) c.loop-i.i)
+    let before = string_bytes a.text.now in
+    let line = branch_of (positions a.outer.now a.inner.now a.height.now a.n) a.own.now in
+    let found =
+    branch-found (positions a.outer.now a.inner.now a.height.now (taken a.n)) a.own.now l.i c.block-found.result _ c.children-count.result c.block-found.ensures c.children-count.ensures.0
+    c.children-count.ensures.1 in
+    c.in_ok-write.ensures.bytes
+    ∙ ap (λ (t : List ℕ). string_bytes l.text ++ t) (rw (taken-all a.n c.requires) at found)
+    ∙ ap (λ (t : List ℕ). t ++ line l.i) l.invariant
+    ∙ append_assoc before (first_lines line l.i) (line l.i)
+    ∙ ap (λ (t : List ℕ). before ++ t) (sym (branches-more line l.i))
 
 pub returns : goal.returns
 returns c =
     let l = c.loop-i in
-    let a = c.args in
-    let e : l.i ≡ a.n = omega arith in
-    puts-wider 45056 (omega (arith, few a.outer.now a.inner.now a.height.now a.n a.n)) (rw e at l.invariant.1)
+    let e : l.i ≡ c.args.n = omega arith in
+    rw e at l.invariant

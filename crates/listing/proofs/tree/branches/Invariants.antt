@@ -1,16 +1,11 @@
--- The lines before i stand one behind the other. Each has at most 33 bytes, and 11 for each child; no invocation is a child twice.
+-- The lines before i stand behind what was there.
 -- Assumes nothing.
-use lib.ListN.{length}
+use Rattle.std.proofs.Common.{◌≡◌, ◌++◌}
+use Rattle.std.specs.Prelude.{string_bytes}
 use Rattle.subtrees.specs.Subtrees.{positions}
-use Rattle.finder.proofs.Claims.{met_by}
 use Rattle.listing.specs.Tree.{branch_of, first_lines}
-use Rattle.listing.specs.Puts.{PutsText}
-use Prim.Native.Nat.{◌+◌, ◌*◌, ◌-◌, ◌≤◌}
 use Rattle.listing.proofs.tree.branches.Given as goal
 
 abbrev pub invariant-loop-i : goal.invariant-loop-i
-invariant-loop-i l = (l.i ≤ l.n)
-    × PutsText (l.i * 33 + length (met_by (positions l.outer l.inner l.height l.n) l.i) * 11) l.initial.out l.from (first_lines (branch_of (positions l.outer l.inner l.height l.n) l.own) l.i) l.out l.at
-
-abbrev pub decreases-loop-i : goal.decreases-loop-i
-decreases-loop-i l = l.n - l.i
+invariant-loop-i l =
+    string_bytes l.text ≡ string_bytes l.initial.text ++ first_lines (branch_of (positions l.outer l.inner l.height l.n) l.own) l.i

@@ -1,13 +1,18 @@
 -- A refusal is its one line; a success is its first line and those by the finder behind it, which are those of the rows.
 -- Assumes nothing.
-use Rattle.listing.proofs.Putting.{puts-next, puts-wider}
+use Rattle.std.proofs.lemmas.Result.{IfOk-weaker}
+use Rattle.listing.proofs.Lengths.{refusal-few, drawn-few, puts}
 use Rattle.listing.proofs.Drawing.{tree-refused, tree-few, tree-drawn}
 use Rattle.listing.specs.Listing.{refusal_line, route_of}
-use Rattle.listing.specs.Tree.{tree}
+use Rattle.std.specs.Prelude.{string_bytes}
+use mathlib.Core.List.{◌++◌}
+use Rattle.subtrees.specs.Subtrees.{positions}
+use Rattle.subtrees.proofs.Arrays.{positions-length}
+use Rattle.listing.specs.Tree.{tree, tree_head, branch_of, first_lines}
 use lib.ListN.{length, drop, length-drop}
 use lib.Seq.{take_all}
 use mathlib.Core.Path.{◌≡◌, ◌∙◌}
-use Prim.Native.Nat.{◌-◌}
+use Prim.Native.Nat.{◌-◌, ◌≤◌}
 use native.Mathlib.Omega.{arith}
 use Rattle.listing.proofs.tree.draw.Goals as goal
 
@@ -16,7 +21,8 @@ returns-then-a-ne0 c =
     let r = c.routed-a in
     let l = c.args.input.now in
     let t : tree l ≡ refusal_line r.result.number r.result.place = rw r.ensures.0 (tree-refused l (rw r.ensures.0 at c.if-a-ne0.true)) in
-    rw t (puts-wider 65536 (omega arith) c.refused.ensures)
+    let few : length (refusal_line r.result.number r.result.place) ≤ 65536 = omega (arith, refusal-few r.result.number r.result.place (omega arith) (omega arith)) in
+    rw t (IfOk-weaker _ _ _ (λ text e. puts e few) c.refused.ensures)
 
 pub put_own-requires : goal.put_own-requires
 put_own-requires c =
@@ -33,15 +39,21 @@ branches-requires c =
     let k = c.names_end in
     let cut = take_all (length l - k.result) (drop k.result l) (simp length-drop (omega arith)) ∙ k.ensures.2 in
     let good : (route_of l).answer.number ≡ 0 = rw c.routed-a.ensures.0 at c.if-a-ne0.false in
-    (omega (arith, c.head-next.ensures.within), tree-few l good _ cut _ _ _ _ _ c.flatten-flat.ensures.1)
+    tree-few l good _ cut _ _ _ _ _ c.flatten-flat.ensures.1
 
 pub returns : goal.returns
 returns c =
     let l = c.args.input.now in
     let k = c.names_end in
+    let f = c.flatten-flat in
+    let n = f.result.count in
+    let r = c.routed-a in
+    let own = c.put_own.new.own in
     let cut = take_all (length l - k.result) (drop k.result l) (simp length-drop (omega arith)) ∙ k.ensures.2 in
-    let good : (route_of l).answer.number ≡ 0 = rw c.routed-a.ensures.0 at c.if-a-ne0.false in
-    let own = rw c.routed-a.ensures.1 at c.put_own.ensures in
-    let t = tree-drawn l good _ cut _ _ _ _ _ c.flatten-flat.ensures.1 _ own in
-    let head = rw c.routed-a.ensures.0 at c.head-next.ensures in
-    rw (← t) (puts-wider 65536 (omega arith) (puts-next head c.branches.ensures))
+    let good : (route_of l).answer.number ≡ 0 = rw r.ensures.0 at c.if-a-ne0.false in
+    let t = tree-drawn l good _ cut _ _ _ _ _ f.ensures.1 _ (rw r.ensures.1 at c.put_own.ensures) in
+    let ps = positions f.new.outer f.new.inner f.new.height n in
+    let long = positions-length f.new.outer f.new.inner f.new.height n in
+    let few = drawn-few ps own n r.result.invocations (omega (arith, long)) (omega (arith, long, tree-few l good _ cut _ _ _ _ _ f.ensures.1)) (omega arith) in
+    let made : string_bytes c.branches.new.text ≡ tree_head r.result.invocations ++ first_lines (branch_of ps own) n = rw c.in_ok-text.ensures at c.in_ok-branches.ensures in
+    rw (← t, ← r.ensures.0) (puts made few)

@@ -1,9 +1,8 @@
--- The word and the number are put, and the end of the line behind them.
+-- The pieces are the line.
 -- Assumes nothing.
-use Rattle.listing.proofs.Putting.{puts-next}
-use Rattle.listing.specs.Tree.{tree_head}
+use Rattle.std.proofs.Common.{arith}
+use Rattle.listing.proofs.Texts.{tree_head-text}
 use Rattle.listing.proofs.tree.head.Goals as goal
 
 pub returns : goal.returns
-unfolding tree_head
-returns c = puts-next c.named-at.ensures c.word.ensures
+returns c = rw (← tree_head-text c.args.n (omega arith)) c.format.ensures.ok
