@@ -1,10 +1,19 @@
 -- The walk over the slices of a DLMM instruction: what each turn cites.
 -- Assumes nothing.
-use Rattle.std.proofs.Common.{◌≡◌, ℕ, suc, ◌+◌, ◌-◌, ◌≤◌, ◌<◌, Bool, true, false, cond, ◌&&◌, List, arith, refl, leb}
-use Rattle.std.specs.Prelude.{Option, Some, None}
+use Rattle.std.proofs.Common.{◌≡◌, ℕ, suc, ◌+◌, ◌-◌, ◌≤◌, ◌<◌, Bool, true, false, cond, ◌&&◌, ◌||◌, List, arith, refl, leb, ltb, eqb}
+use Rattle.std.specs.Prelude.{Option, Some, None, unwrap_or}
 use Rattle.swaps.specs.declared.dlmm.Slice.{Slice}
 use Rattle.swaps.specs.Data.{when}
-use Rattle.swaps.specs.Dlmm.{slice_at, slices}
+use Rattle.swaps.specs.Dlmm.{tag_size, slice_at, slices}
+
+-- a tag has at most two bytes
+pub tag_small : (tag : ℕ) → unwrap_or (tag_size tag) 0 ≤ 2
+tag_small tag = go (ltb tag 3 || eqb tag 4) (eqb tag 3)
+  where
+    go : (one two : Bool) → unwrap_or (cond one (Some 1) (cond two (Some 2) None)) 0 ≤ 2
+    go true two = omega arith
+    go false true = omega arith
+    go false false = omega arith
 
 -- the walk goes on with a slice that is whole
 abbrev pub goes_on : Option Slice → (Slice → Bool) → Bool
@@ -15,10 +24,10 @@ on : (t : Bool) (s : Slice) (f : Slice → Bool) → goes_on (when t (Some s)) f
 on true s f = refl
 on false s f = refl
 
-both : (t u rest : Bool) → cond (t && u) rest false ≡ (t && (u && rest))
-both true true rest = refl
-both true false rest = refl
-both false u rest = refl
+joined : (t u rest : Bool) → cond (t && u) rest false ≡ (t && (u && rest))
+joined true true rest = refl
+joined true false rest = refl
+joined false u rest = refl
 
 module _ (d : List ℕ) (remaining count i at used : ℕ) where
   -- no slice is left
@@ -34,4 +43,4 @@ module _ (d : List ℕ) (remaining count i at used : ℕ) where
   unfolding slices
   walked h =
       let s : count - i ≡ suc (count - (i + 1)) = omega arith in
-      rw (s, on, both)
+      rw (s, on, joined)
