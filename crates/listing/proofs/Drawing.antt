@@ -16,6 +16,11 @@ use Rattle.wire.specs.Tab.{tab}
 use Rattle.wire.proofs.Sets.{sets-in}
 use Rattle.wire.proofs.Tab.{tab-length, tab-at}
 use Rattle.wire.specs.Le.{le}
+use Rattle.std.specs.Prelude.{Result, Ok, Err}
+use Rattle.std.specs.Result.{result_unwrap_or}
+use Rattle.pack.specs.declared.Refusal.{Refusal}
+use Rattle.pack.specs.Verdict.{count_in}
+use Rattle.pack.specs.declared.position.Place.{Place}
 use Rattle.pack.specs.Invocation.{Position}
 use Rattle.pack.specs.View.{view_of}
 use Rattle.pack.specs.Flatten.{flatten}
@@ -101,7 +106,12 @@ pub tree-refused : (input : List ℕ) → (route_of input).answer.number ≢ 0 �
 unfolding tree drawn
 tree-refused input h = rw (ne_eqb (route_of input).answer.number 0 h)
 
-module _ (input : List ℕ) (s : Succeeds (route_of input)) (p : List ℕ) (cut : p ≡ drop 88 input) (n : ℕ) (at outer inner height : List ℕ) (w : Flattened p n at outer inner height) where
+-- what is flattened, with the count of a pack that is refused as 0
+pub flat : (p at : List ℕ) (places : List Place) (r : Result ℕ Refusal) {n : ℕ} → Flattened p (count_in r) at places → n ≡ result_unwrap_or r 0 → Flattened p n at places
+flat p at places (Ok m) w e = rw e w
+flat p at places (Err x) w e = rw e w
+
+module _ (input : List ℕ) (s : Succeeds (route_of input)) (p : List ℕ) (cut : p ≡ drop 88 input) (n : ℕ) (at : List ℕ) (places : List Place) (w : Flattened p n at places) where
   abbrev rest : List ℕ
   rest = drop 88 input
 
@@ -116,17 +126,17 @@ module _ (input : List ℕ) (s : Succeeds (route_of input)) (p : List ℕ) (cut 
   meets = rw cut (good (take 88 input) rest lent_room s)
 
   pub tree-few : n ≤ 1024
-  tree-few = few p n at outer inner height meets w
+  tree-few = few p n at places meets w
 
-  same : positions_of (flatten (view_of (drop 88 input))) ≡ positions outer inner height n
-  same = rw (← cut) (positions-are p n at outer inner height meets w)
+  same : positions_of (flatten (view_of (drop 88 input))) ≡ positions places n
+  same = rw (← cut) (positions-are p n at places meets w)
 
   all : n ≡ (route_of input).answer.invocations
   unfolding route_of
-  all = sym (counted (take 88 input) rest lent_room s ∙ ap length same ∙ positions-length outer inner height n)
+  all = sym (counted (take 88 input) rest lent_room s ∙ ap length same ∙ positions-length places n)
 
   pub tree-drawn : (own : List ℕ) → own ≡ sets (zeros 1024) 0 (tab (λ i. own_in (row_in (route_of input).invocations i)) 0 n)
-      → tree_head (route_of input).answer.invocations ++ first_lines (branch_of (positions outer inner height n) own) n ≡ tree input
+      → tree_head (route_of input).answer.invocations ++ first_lines (branch_of (positions places n) own) n ≡ tree input
   unfolding route_of tree drawn
   tree-drawn own e =
       rw (eq-eqb answer.number 0 s, ← same, all)

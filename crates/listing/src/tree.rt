@@ -14,6 +14,8 @@ ghost use Rattle.listing.specs.Puts.{PutsText};
 
 use crate::{names_end, read, refused, routed};
 use finder::Found;
+use pack::Place;
+use pack::position::BLANK;
 use route::width;
 use std::alloc::{AllocError, Global};
 use std::fmt::Display;
@@ -85,19 +87,17 @@ impl Display for Branch<'_> {
 fn branches(
     text: &mut String,
     n: usize,
-    outer: &[u32; 1024],
-    inner: &[u32; 1024],
-    height: &[u64; 1024],
+    places: &[Place; 1024],
     own: &[u8; 1024],
 ) -> Result<(), AllocError>
     requires { n ≤ 1024 }
     ensures { OnOk result (string_bytes text.new
-        ≡ string_bytes text.old ++ first_lines (branch_of (positions outer.now inner.now height.now n) own.now) n) }
+        ≡ string_bytes text.old ++ first_lines (branch_of (positions places.now n) own.now) n) }
 {
     for i in 0..n {
         let mut list = [0u32; 1024];
-        let found = finder::block(n, outer, inner, height, own, i);
-        let count = finder::children(n, outer, inner, height, own, i, &mut list);
+        let found = finder::block(n, places, own, i);
+        let count = finder::children(n, places, own, i, &mut list);
         let children = &list[..count];
         let branch = Branch { found, children };
         write!(text, "{branch}")?;
@@ -115,21 +115,12 @@ fn draw(alloc: Global, input: &[u8]) -> Result<String, AllocError>
         return refused(alloc, &a);
     }
     let mut at = [0u32; 1024];
-    let mut outer = [0u32; 1024];
-    let mut inner = [0u32; 1024];
-    let mut height = [0u64; 1024];
-    let flat = pack::flatten(
-        &input[names_end(input)..],
-        &mut at,
-        &mut outer,
-        &mut inner,
-        &mut height,
-    );
-    let n = flat.count;
+    let mut places = [BLANK; 1024];
+    let n = pack::flatten(&input[names_end(input)..], &mut at, &mut places).unwrap_or(0);
     let mut own = [0u8; 1024];
     put_own(&rows, n, &mut own);
     let mut text = head(alloc, a.invocations)?;
-    branches(&mut text, n, &outer, &inner, &height, &own)?;
+    branches(&mut text, n, &places, &own)?;
     Ok(text)
 }
 

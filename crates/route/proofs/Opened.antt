@@ -23,7 +23,7 @@ use Rattle.token.specs.Reasons.{transfer_layouts, begins_as, lacks_key, lacking,
 use Rattle.token.specs.Rows.{transfer_row}
 use Rattle.natives.specs.Natives.{is_system, funds, syncs, closes, asked, indexes_below, wrapped, counted, native_action}
 use Rattle.natives.specs.Rows.{fields_of}
-use Rattle.swaps.specs.Data.{discriminator, is}
+use Rattle.swaps.specs.Data.{is}
 use Rattle.swaps.specs.Clmm.{clmm}
 use Rattle.swaps.specs.Orca.{orca}
 use Rattle.swaps.specs.Cpmm.{cpmm}
@@ -61,5 +61,5 @@ use Rattle.route.specs.Tables.{item, own_of, flags_of, leg_number, invocation_at
 use Rattle.route.specs.Route.{refused, accepted, fitted, passed, judged, route}
 
 unfoldable pub opened : Type 1
-unfolding discriminator flat_map le le_bytes same zero_key ids of_number row_from which program_at instruction_at mark marked start_of ordered has_section section_of rows rows_fill keys_fill item_end outers_from outers_fill height_at height_good inners_end inners_good inners_from group_end group_good group_at groups_from groups_fill keys_in balances_in balances_named outer_in groups_in pools_in view_of numbered inside flatten_from flatten verdict is_token is_token2022 initialises plain_transfer checked_transfer fee_transfer both_ends records plain fee_of plainly checked transfer starts one_of total size place standing role transfer_layout transfer_checked transfer_checked_with_fee transfer_layouts begins_as lacks_key lacking reason_among reason transfer_row is_spl is_system funds syncs closes asked indexes_below wrapped counted native_action fields_of is clmm orca cpmm launch_lab is_wrapped_sol pump_fun contains slices slices_fit swap_layout dlmm pump_swap amm_v4 valued by_program swap end_bytes key_bytes leg_row lt_key gather lookup put note note_all recorded fill spread step pass once_more run run_from infer insert sort clean final against is_mint gives reaches reaching another several absent mark_of mint_table finish mints mint_in balance_says says moves evidence_of transfers_of inferred higher inners descendant first_not any_in count_in sum_in atop tests_at last_below parent_at tab position_in within inside_of rows_of placed flagged invocation_row transfer_of transfer_rows reason_in leg_of leg_rows action_of action_rows program_bits item own_of flags_of leg_number invocation_at tables_with tables_if tables refused accepted fitted passed judged route
+unfolding flat_map le le_bytes same zero_key ids of_number row_from which program_at instruction_at mark marked start_of ordered has_section section_of rows rows_fill keys_fill item_end outers_from outers_fill height_at height_good inners_end inners_good inners_from group_end group_good group_at groups_from groups_fill keys_in balances_in balances_named outer_in groups_in pools_in view_of numbered inside flatten_from flatten verdict is_token is_token2022 initialises plain_transfer checked_transfer fee_transfer both_ends records plain fee_of plainly checked transfer starts one_of total size place standing role transfer_layout transfer_checked transfer_checked_with_fee transfer_layouts begins_as lacks_key lacking reason_among reason transfer_row is_spl is_system funds syncs closes asked indexes_below wrapped counted native_action fields_of is clmm orca cpmm launch_lab is_wrapped_sol pump_fun contains slices slices_fit swap_layout dlmm pump_swap amm_v4 valued by_program swap end_bytes key_bytes leg_row lt_key gather lookup put note note_all recorded fill spread step pass once_more run run_from infer insert sort clean final against is_mint gives reaches reaching another several absent mark_of mint_table finish mints mint_in balance_says says moves evidence_of transfers_of inferred higher inners descendant first_not any_in count_in sum_in atop tests_at last_below parent_at tab position_in within inside_of rows_of placed flagged invocation_row transfer_of transfer_rows reason_in leg_of leg_rows action_of action_rows program_bits item own_of flags_of leg_number invocation_at tables_with tables_if tables refused accepted fitted passed judged route
 opened = Type 0

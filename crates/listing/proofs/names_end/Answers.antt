@@ -4,11 +4,11 @@ use Rattle.std.proofs.Common.{◌≡◌, ◌≤◌, ℕ, List, length, take, dro
 use Rattle.std.specs.Prelude.{min}
 use lib.ListN.{drop_of_length-le}
 use lib.Seq.{take_all}
-use Rattle.subtrees.proofs.Ranges.{lt-or-ge}
+use Rattle.std.proofs.lemmas.Bool.{cases_lt}
 use Rattle.listing.proofs.names_end.Goals as goal
 
 cut : (l : List ℕ) (k : ℕ) → k ≡ min (length l) 88 → (k ≤ length l) × (take k l ≡ take 88 l) × (drop k l ≡ drop 88 l)
-cut l k e = elim (lt-or-ge (length l) 88) [
+cut l k e = elim (cases_lt (length l) 88) [
   | inl h ↦ (
     omega (arith, e),
     take_all k l (omega (arith, e)) ∙ sym (take_all 88 l (omega arith)),

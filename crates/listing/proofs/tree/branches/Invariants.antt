@@ -8,4 +8,4 @@ use Rattle.listing.proofs.tree.branches.Given as goal
 
 abbrev pub invariant-loop-i : goal.invariant-loop-i
 invariant-loop-i l =
-    string_bytes l.text ≡ string_bytes l.initial.text ++ first_lines (branch_of (positions l.outer l.inner l.height l.n) l.own) l.i
+    string_bytes l.text ≡ string_bytes l.initial.text ++ first_lines (branch_of (positions l.places l.n) l.own) l.i

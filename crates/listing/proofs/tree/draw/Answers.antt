@@ -2,7 +2,7 @@
 -- Assumes nothing.
 use Rattle.std.proofs.lemmas.Result.{IfOk-weaker}
 use Rattle.listing.proofs.Lengths.{refusal-few, drawn-few, puts}
-use Rattle.listing.proofs.Drawing.{tree-refused, tree-few, tree-drawn}
+use Rattle.listing.proofs.Drawing.{tree-refused, flat, tree-few, tree-drawn}
 use Rattle.listing.specs.Listing.{refusal_line, route_of}
 use Rattle.std.specs.Prelude.{string_bytes}
 use mathlib.Core.List.{◌++◌}
@@ -30,7 +30,7 @@ put_own-requires c =
     let k = c.names_end in
     let cut = take_all (length l - k.result) (drop k.result l) (simp length-drop (omega arith)) ∙ k.ensures.2 in
     let good : (route_of l).answer.number ≡ 0 = rw c.routed-a.ensures.0 at c.if-a-ne0.false in
-    let few = tree-few l good _ cut _ _ _ _ _ c.flatten-flat.ensures.1 in
+    let few = tree-few l good _ cut _ _ _ (flat _ _ _ c.flatten.result c.flatten.ensures.arrays c.unwrap_or-n.ensures) in
     record { n_bound = few; invocation_width_in_bounds = omega (arith, few, c.routed-a.auto.invocations) }
 
 pub branches-requires : goal.branches-requires
@@ -39,21 +39,22 @@ branches-requires c =
     let k = c.names_end in
     let cut = take_all (length l - k.result) (drop k.result l) (simp length-drop (omega arith)) ∙ k.ensures.2 in
     let good : (route_of l).answer.number ≡ 0 = rw c.routed-a.ensures.0 at c.if-a-ne0.false in
-    tree-few l good _ cut _ _ _ _ _ c.flatten-flat.ensures.1
+    tree-few l good _ cut _ _ _ (flat _ _ _ c.flatten.result c.flatten.ensures.arrays c.unwrap_or-n.ensures)
 
 pub returns : goal.returns
 returns c =
     let l = c.args.input.now in
     let k = c.names_end in
-    let f = c.flatten-flat in
-    let n = f.result.count in
+    let f = c.flatten in
+    let n = c.unwrap_or-n.result in
+    let w = flat _ _ _ f.result f.ensures.arrays c.unwrap_or-n.ensures in
     let r = c.routed-a in
     let own = c.put_own.new.own in
     let cut = take_all (length l - k.result) (drop k.result l) (simp length-drop (omega arith)) ∙ k.ensures.2 in
     let good : (route_of l).answer.number ≡ 0 = rw r.ensures.0 at c.if-a-ne0.false in
-    let t = tree-drawn l good _ cut _ _ _ _ _ f.ensures.1 _ (rw r.ensures.1 at c.put_own.ensures) in
-    let ps = positions f.new.outer f.new.inner f.new.height n in
-    let long = positions-length f.new.outer f.new.inner f.new.height n in
-    let few = drawn-few ps own n r.result.invocations (omega (arith, long)) (omega (arith, long, tree-few l good _ cut _ _ _ _ _ f.ensures.1)) (omega arith) in
+    let t = tree-drawn l good _ cut _ _ _ w _ (rw r.ensures.1 at c.put_own.ensures) in
+    let ps = positions f.new.places n in
+    let long = positions-length f.new.places n in
+    let few = drawn-few ps own n r.result.invocations (omega (arith, long)) (omega (arith, long, tree-few l good _ cut _ _ _ w)) (omega arith) in
     let made : string_bytes c.branches.new.text ≡ tree_head r.result.invocations ++ first_lines (branch_of ps own) n = rw c.in_ok-text.ensures at c.in_ok-branches.ensures in
     rw (← t, ← r.ensures.0) (puts made few)
