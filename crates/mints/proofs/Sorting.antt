@@ -12,8 +12,7 @@ use native.Mathlib.Numerals.{add-one}
 use native.Mathlib.Omega.{arith}
 use borrow.Author.Tests.{ltb-true, lt-ltb}
 use lib.Dec.{ltb}
-use lib.ListN.{length, get_or, take, length-append, length-take, length-drop, get_or-eq_default}
-use lib.Seq.{get_or-take}
+use lib.ListN.{length, get_or, length-append, length-take, length-drop, get_or-eq_default}
 use Rattle.wire.specs.Order.{lt_key, Below}
 use Rattle.wire.proofs.Order.{below-trans, Order, order, less, level, more, lt_key-below, lt_key-above, lt_key-true}
 use Rattle.wire.proofs.Ascending.{put-mem, mem-put}
@@ -21,10 +20,6 @@ use Rattle.ids.specs.Keys.{Key}
 use Rattle.mints.specs.declared.row.Row.{Row}
 use Rattle.mints.specs.Cells.{account_at, state_at, Fits}
 use Rattle.mints.specs.Order.{spot_in, Rising, rising_nil, rising_cons, put_in, sort_to}
-
--- a row number among the first k
-pub fit_at : (t : List Row) (o : List ℕ) (k j : ℕ) → j < k → Fits t (take k o) → get_or o j 0 < length t
-fit_at t o k j h f = rw (get_or-take k o j 0 h) at (f j)
 
 pub spot-bound : (t : List Row) (r : ℕ) (l : List ℕ) → spot_in t r l ≤ length l
 unfolding spot_in

@@ -95,7 +95,7 @@ fn publish(
     let mut order = [0u32; 257];
     let k = order::sort(table, rows, &mut order);
     order::write_rows(table, &order[..k], out);
-    order::write_mints(table, row, n, known);
+    order::write_mints(table, &row[..n], known);
     k
 }
 

@@ -77,12 +77,12 @@ fn write_mint(table: &[Row], r: usize, i: usize, out: &mut [u8])
     }
 }
 
-// Writes the mints of the first n key indexes over zeros, so that those that have none stay zero.
-pub(crate) fn write_mints(table: &[Row], row: &[u32], n: usize, out: &mut [u8])
-    requires { (n ≤ length row.now) × (n ≤ 65536) × Fits table.now row.now × (out.old ≡ zeros (length out.old)) }
-    ensures { out.new ≡ sets out.old 0 (mints_to table.now row.now n) }
+// Writes the mints of the key indexes over zeros, so that those that have none stay zero.
+pub(crate) fn write_mints(table: &[Row], row: &[u32], out: &mut [u8])
+    requires { (length row.now ≤ 65536) × Fits table.now row.now × (out.old ≡ zeros (length out.old)) }
+    ensures { out.new ≡ sets out.old 0 (mints_to table.now row.now (length row.now)) }
 {
-    for i in 0..n {
+    for i in 0..row.len() {
         write_mint(table, row[i] as usize, i, out);
     }
 }

@@ -1,6 +1,8 @@
 -- The three calls write what they promise: the ordered rows, their bytes, and the mints by key index; ordered rows are whole rows of the table.
 use Rattle.mints.proofs.Sorting.{sort-fits, sort-length}
-use lib.ListN.{length, length-take}
+use Rattle.mints.proofs.Writing.{mints-take, fits-take}
+use lib.Seq.{length-take-le}
+use lib.ListN.{length, take, length-take}
 use mathlib.Core.Path.{◌≡◌, ◌∙◌}
 use native.Mathlib.Omega.{arith}
 use Rattle.mints.proofs.publish.Goals as goal
@@ -16,7 +18,16 @@ write_rows-requires c =
       rw q.1 (sort-fits t n (omega arith) (omega arith)),
     )
 
+pub write_mints-requires : goal.write_mints-requires
+write_mints-requires c =
+    let a = c.args in
+    let p = c.requires.rows_bound in
+    let t = a.table.now in
+    (simp length-take (omega (arith, p.2)), fits-take t a.row.now a.n p.4, c.requires.known_value)
+
 pub returns : goal.returns
 returns c =
     let q = c.sort-k.ensures in
-    record { value = q.0; out_after = c.write_rows.ensures ∙ rw q.1; known_after = c.write_mints.ensures }
+    let a = c.args in
+    let e : length (take a.n a.row.now) ≡ a.n = length-take-le a.n a.row.now c.requires.rows_bound.1 in
+    record { value = q.0; out_after = c.write_rows.ensures ∙ rw q.1; known_after = c.write_mints.ensures ∙ rw (e, mints-take a.table.now a.row.now a.n a.n (omega arith)) }

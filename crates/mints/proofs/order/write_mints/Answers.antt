@@ -2,7 +2,7 @@
 use Rattle.mints.proofs.Writing.{mints-more, mints-blank}
 use Rattle.mints.specs.Order.{shown_mint, mints_to}
 use Rattle.wire.proofs.Sets.{sets-next}
-use lib.ListN.{get_or}
+use lib.ListN.{length, get_or}
 use Prim.Native.Nat.{◌*◌}
 use native.Mathlib.Numerals.{add-one}
 use mathlib.Core.Path.{◌≡◌, refl, ◌∙◌}
@@ -16,7 +16,7 @@ loop-i-init c = (refl, refl, refl)
 pub write_mint-requires : goal.write_mint-requires
 write_mint-requires c =
     let l = c.loop-i in
-    (c.requires.2 l.i, omega arith, rw l.invariant.2 (mints-blank c.args.out.now c.args.table.now c.args.row.now l.i l.invariant.1 c.requires.3))
+    (c.requires.1 l.i, omega arith, rw l.invariant.2 (mints-blank c.args.out.now c.args.table.now c.args.row.now l.i l.invariant.1 c.requires.2))
 
 pub loop-i-preserved : goal.loop-i-preserved
 unfolding mints_to
@@ -35,5 +35,5 @@ shape_of-out c = c.loop-i.invariant.0
 pub returns : goal.returns
 returns c =
     let l = c.loop-i in
-    let n : l.i ≡ c.args.n = omega arith in
+    let n : l.i ≡ length c.args.row.now = omega arith in
     rw n at l.invariant.2
