@@ -5,6 +5,7 @@ ghost use Rattle.month.specs.Bytes.{rows_to, transfers_in};
 ghost use Rattle.month.specs.Lookup.{transfers_at, all_among};
 ghost use Rattle.month.specs.Standing.{Bears, Stands, PlacesIn, Walked};
 
+use crate::new::Lines;
 use crate::report::Report;
 use crate::{TRANSFER, empty, new, sums};
 
@@ -29,7 +30,8 @@ fn admit(report: &mut [u8], rows: usize, t: &[u8], wait: &[usize]) -> usize
     if wait.is_empty() {
         return rows;
     }
-    let lines = new::gather(&Report::new(report, rows), t, wait);
+    let mut lines = Lines::none_of(t);
+    new::gather(&Report::new(report, rows), wait, &mut lines);
     let used = rows + lines.len();
     empty::put_in(report, rows, &lines);
     post_waiting(report, used, t, wait);

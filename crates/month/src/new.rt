@@ -143,14 +143,16 @@ impl<'t> Lines<'t> {
     }
 }
 
-// The lines that waiting transfers of a table bring, as many as can be held.
-pub(crate) fn gather<'t>(report: &Report<'_>, t: &'t [u8], wait: &[usize]) -> Lines<'t>
-    requires { PlacesIn t.now wait.now }
-    ensures { result ≡ record { table = t.now; lines = take 3072 (new_above (lines_of report.now) [] (lines_in (transfers_at t.now wait.now))) } }
+// Leaves the lines that waiting transfers of the table bring, as many as can be held.
+pub(crate) fn gather(report: &Report<'_>, wait: &[usize], lines: &mut Lines<'_>)
+    requires { PlacesIn lines.old.table wait.now }
+    ensures { lines.new ≡ record {
+      table = lines.old.table;
+      lines = take 3072 (new_above (lines_of report.now) [] (lines_in (transfers_at lines.old.table wait.now)));
+    } }
 {
-    let mut lines = Lines::none_of(t);
+    lines.clear();
     for i in wait {
         lines.enter_all(report, *i, b"");
     }
-    lines
 }

@@ -14,21 +14,21 @@ use Rattle.month.proofs.Views.{rows-length}
 use Rattle.month.proofs.Bearing.{bears-empty}
 use Rattle.month.proofs.Batches.{fresh, admitted-all, admitted-fed, admit-used, admit-out, admit-rows}
 use Rattle.month.proofs.feed.admit.Goals as goal
-use Rattle.month.proofs.feed.admit.Goals.{After-gather-lines, After-put_in}
+use Rattle.month.proofs.feed.admit.Goals.{After-gather, After-put_in}
 
 -- the report as it stood, and the transfers that wait
-abbrev old : After-gather-lines → Report
+abbrev old : After-gather → Report
 old c = rows_to c.args.report.now c.args.rows
 
-abbrev waits : After-gather-lines → List FedTransfer
+abbrev waits : After-gather → List FedTransfer
 waits c = let a = c.args in transfers_at a.t.now a.wait.now
 
 -- the lines that they bring
-lines_are : (c : After-gather-lines) → c.gather-lines.result.lines ≡ take 3072 (new_above (lines_of (old c)) [] (lines_in (waits c)))
-lines_are c = ap (λ (p : Picked). p.lines) (rw c.new.ensures at c.gather-lines.ensures)
+lines_are : (c : After-gather) → c.gather.new.lines.lines ≡ take 3072 (new_above (lines_of (old c)) [] (lines_in (waits c)))
+lines_are c = ap (λ (p : Picked). p.lines) (rw (c.new.ensures, c.none_of-lines.ensures) at c.gather.ensures)
 
 -- how many rows there are then
-rows_then : (c : After-gather-lines) → c.args.rows + length c.gather-lines.result.lines ≡ used (fed_into (old c) (waits c))
+rows_then : (c : After-gather) → c.args.rows + length c.gather.new.lines.lines ≡ used (fed_into (old c) (waits c))
 rows_then c =
     let a = c.args in
     omega (arith, rows-length a.report.now a.rows, admit-used (old c) a.t.now a.wait.now c.requires.1 (lines_are c) c.requires.0.sorted)
@@ -36,7 +36,7 @@ rows_then c =
 -- the report with the empty rows
 made :
     (c : After-put_in)
-    → c.gather-lines.result.lines ≡ take 3072 (new_above (lines_of (rows_to c.args.report.now c.args.rows)) [] (lines_in (transfers_at c.args.t.now c.args.wait.now)))
+    → c.gather.new.lines.lines ≡ take 3072 (new_above (lines_of (rows_to c.args.report.now c.args.rows)) [] (lines_in (transfers_at c.args.t.now c.args.wait.now)))
     → rows_to c.put_in.new.report (c.args.rows + c.len.result) ≡ add_rows (rows_to c.args.report.now c.args.rows) (empty_rows (fresh (rows_to c.args.report.now c.args.rows) (transfers_at c.args.t.now c.args.wait.now)))
 made c e =
     let a = c.args in
@@ -51,13 +51,16 @@ returns-then-is_empty c =
     (e, sym (rows-length a.report.now a.rows) ∙ ap used e)
 
 pub overflow_add-used : goal.overflow_add-used
-overflow_add-used c = omega (arith, rows_then (goal.at.overflow_add-used c).After-gather-lines, c.len.ensures.lines, c.requires.4)
+overflow_add-used c = omega (arith, rows_then (goal.at.overflow_add-used c).After-gather, c.len.ensures.lines, c.requires.4)
+
+pub gather-requires : goal.gather-requires
+gather-requires c = rw c.none_of-lines.ensures c.requires.2
 
 pub put_in-requires : goal.put_in-requires
 put_in-requires c =
     let a = c.args in
     let p = c.requires in
-    let g = (goal.at.put_in-requires c).After-gather-lines in (
+    let g = (goal.at.put_in-requires c).After-gather in (
       p.0,
       omega (arith, rows_then g, p.4),
       admit-out (rows_to a.report.now a.rows) a.t.now a.wait.now p.1 (lines_are g),
@@ -67,19 +70,19 @@ pub post_waiting-requires : goal.post_waiting-requires
 post_waiting-requires c =
     let q = c.put_in in
     let p = c.requires in
-    let e = made (goal.at.post_waiting-requires c).After-put_in (lines_are (goal.at.post_waiting-requires c).After-gather-lines) in (
+    let e = made (goal.at.post_waiting-requires c).After-put_in (lines_are (goal.at.post_waiting-requires c).After-gather) in (
       record {
-        inside = omega (arith, rows_then (goal.at.post_waiting-requires c).After-gather-lines, c.len.ensures.lines, p.4, q.auto.report);
-        sorted = rw e (add-all-sorted (empty_rows (fresh (old (goal.at.post_waiting-requires c).After-gather-lines) (waits (goal.at.post_waiting-requires c).After-gather-lines))) p.0.sorted);
+        inside = omega (arith, rows_then (goal.at.post_waiting-requires c).After-gather, c.len.ensures.lines, p.4, q.auto.report);
+        sorted = rw e (add-all-sorted (empty_rows (fresh (old (goal.at.post_waiting-requires c).After-gather) (waits (goal.at.post_waiting-requires c).After-gather))) p.0.sorted);
       },
       p.1,
       p.2,
-      rw e (bears-empty (fresh (old (goal.at.post_waiting-requires c).After-gather-lines) (waits (goal.at.post_waiting-requires c).After-gather-lines)) (old (goal.at.post_waiting-requires c).After-gather-lines) (length c.args.wait.now) (omega (arith, p.1)) p.3),
-      rw e (admitted-all (old (goal.at.post_waiting-requires c).After-gather-lines) (waits (goal.at.post_waiting-requires c).After-gather-lines)),
+      rw e (bears-empty (fresh (old (goal.at.post_waiting-requires c).After-gather) (waits (goal.at.post_waiting-requires c).After-gather)) (old (goal.at.post_waiting-requires c).After-gather) (length c.args.wait.now) (omega (arith, p.1)) p.3),
+      rw e (admitted-all (old (goal.at.post_waiting-requires c).After-gather) (waits (goal.at.post_waiting-requires c).After-gather)),
     )
 
 pub returns : goal.returns
 returns c = (
-  c.post_waiting.ensures ∙ ap (λ (s : Report). fed_into s (waits (goal.at.returns c).After-gather-lines)) (made (goal.at.returns c).After-put_in (lines_are (goal.at.returns c).After-gather-lines)) ∙ admitted-fed (old (goal.at.returns c).After-gather-lines) (waits (goal.at.returns c).After-gather-lines),
-  rw c.len.ensures.lines (rows_then (goal.at.returns c).After-gather-lines),
+  c.post_waiting.ensures ∙ ap (λ (s : Report). fed_into s (waits (goal.at.returns c).After-gather)) (made (goal.at.returns c).After-put_in (lines_are (goal.at.returns c).After-gather)) ∙ admitted-fed (old (goal.at.returns c).After-gather) (waits (goal.at.returns c).After-gather),
+  rw c.len.ensures.lines (rows_then (goal.at.returns c).After-gather),
 )

@@ -7,10 +7,10 @@ use Rattle.month.proofs.Noting.{picked}
 use Rattle.month.proofs.new.gather.Goals as goal
 
 pub loop-i-init : goal.loop-i-init
-loop-i-init c = c.none_of-lines.ensures ∙ picked c.args.t.now (none-gathered 3072 (lines_of c.args.report.now) [])
+loop-i-init c = c.clear.ensures ∙ picked c.args.lines.now.table (none-gathered 3072 (lines_of c.args.report.now) [])
 
 pub enter_all-requires : goal.enter_all-requires
-enter_all-requires c = rw c.loop-i.invariant (place_in c.args.t.now c.args.wait.now c.loop-i.i-index c.requires c.loop-i-test.true)
+enter_all-requires c = rw c.loop-i.invariant (place_in c.args.lines.now.table c.args.wait.now c.loop-i.i-index c.requires c.loop-i-test.true)
 
 pub loop-i-preserved : goal.loop-i-preserved
 loop-i-preserved c =
@@ -18,8 +18,8 @@ loop-i-preserved c =
     let l = c.loop-i in
     let old = lines_of a.report.now in
     c.enter_all.ensures
-    ∙ rw (l.invariant, transfers-next a.t.now a.wait.now l.i-index c.loop-i-test.true)
-    (picked a.t.now (one-gathered 3072 old [] (transfers_at a.t.now (take l.i-index a.wait.now)) (fed_at a.t.now (get_or a.wait.now l.i-index 0))))
+    ∙ rw (l.invariant, transfers-next a.lines.now.table a.wait.now l.i-index c.loop-i-test.true)
+    (picked a.lines.now.table (one-gathered 3072 old [] (transfers_at a.lines.now.table (take l.i-index a.wait.now)) (fed_at a.lines.now.table (get_or a.wait.now l.i-index 0))))
 
 pub returns : goal.returns
 returns c =

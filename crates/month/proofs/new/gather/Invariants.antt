@@ -6,4 +6,4 @@ use Rattle.month.specs.Standing.{Picked}
 use Rattle.month.proofs.new.gather.Given as goal
 
 abbrev pub invariant-loop-i : goal.invariant-loop-i
-invariant-loop-i l = ◌≡◌ {A = Picked} l.lines (record { table = l.t; lines = take 3072 (new_above (lines_of l.report) [] (lines_in (transfers_at l.t (take l.i-index l.wait)))) })
+invariant-loop-i l = ◌≡◌ {A = Picked} l.lines (record { table = l.fn.lines.table; lines = take 3072 (new_above (lines_of l.report) [] (lines_in (transfers_at l.fn.lines.table (take l.i-index l.wait)))) })
