@@ -36,6 +36,8 @@ fn put_one(keys: &[u8], pack: &[u8], mints: &[u8; 8192], x: Candidate, out: &mut
 }
 
 // The rows of the n invocations. Answers how many there are.
+//
+// Tables 2 and 3 have this walk too, and fill another array beside their rows: a closure that writes both would say more than the walk that it saves.
 pub(crate) fn put_rows(
     pack: &[u8],
     n: usize,
@@ -51,12 +53,7 @@ pub(crate) fn put_rows(
     let keys = pack::section(pack, 0);
     let mut k = 0;
     for i in 0..n {
-        let x = Candidate {
-            program: programs[i],
-            at: at[i] as usize,
-            number: i as u32,
-            row: k,
-        };
+        let x = Candidate::nth(at, programs, i, k);
         k += put_one(keys, pack, mints, x, out);
     }
     k

@@ -39,7 +39,7 @@ fn program_bits(id: Id) -> u8
     }
 }
 
-// A flag and a number that comes one higher, 0 for none.
+// A flag and a number that comes one higher, 0 for none, as places hold it.
 fn put_flagged(out: &mut [u8], at: usize, raised: u64)
     requires { at < 65536 }
     ensures { out.new ≡ sets out.old at (flagged_of (lowered raised)) }
@@ -53,28 +53,30 @@ fn put_flagged(out: &mut [u8], at: usize, raised: u64)
     wire::put_u32(out, at + 1, ((raised - 1) % 4294967296) as u32);
 }
 
-// The row of an invocation, by the numbers that its arrays hold. It is put in one piece, so that its room is looked at once.
-fn put_row(
-    out: &mut [u8],
-    at: usize,
+// What the arrays hold of an invocation.
+#[derive(Clone, Copy)]
+struct Held {
     place: Place,
     end: u32,
     bits: u8,
     leg: u32,
     parent: u32,
     reason: u8,
-)
-    ensures { out.new ≡ sets out.old at (invocation_row (position_of place) end bits leg parent reason) }
+}
+
+// The row of an invocation. It is put in one piece, so that its room is looked at once.
+fn put_row(out: &mut [u8], at: usize, held: Held)
+    ensures { out.new ≡ sets out.old at (invocation_row (position_of held.place) held.end held.bits held.leg held.parent held.reason) }
 {
     let mut row = [0u8; WIDTH];
-    wire::put_u32(&mut row, 0, place.outer);
-    put_flagged(&mut row, 4, u64::from(place.inner));
-    put_flagged(&mut row, 9, place.height);
-    wire::put_u32(&mut row, 14, end);
-    wire::put_byte(&mut row, 18, bits);
-    wire::put_u32(&mut row, 19, leg);
-    wire::put_u32(&mut row, 23, parent);
-    wire::put_byte(&mut row, 27, reason);
+    wire::put_u32(&mut row, 0, held.place.outer);
+    put_flagged(&mut row, 4, u64::from(held.place.inner));
+    put_flagged(&mut row, 9, held.place.height);
+    wire::put_u32(&mut row, 14, held.end);
+    wire::put_byte(&mut row, 18, held.bits);
+    wire::put_u32(&mut row, 19, held.leg);
+    wire::put_u32(&mut row, 23, held.parent);
+    wire::put_byte(&mut row, 27, held.reason);
     wire::put(out, at, &row);
 }
 
@@ -138,17 +140,15 @@ pub(crate) fn put_rows(
     let mut parents = [0u32; 1024];
     let tests = subtrees::subtrees(n, places, &own, &mut ends, &mut inside, &mut parents);
     for i in 0..n {
-        let b = bits(programs, &inside, reasons, leg, i);
-        put_row(
-            out,
-            i * WIDTH,
-            places[i],
-            ends[i],
-            b,
-            leg[i],
-            parents[i],
-            reasons[i],
-        );
+        let held = Held {
+            place: places[i],
+            end: ends[i],
+            bits: bits(programs, &inside, reasons, leg, i),
+            leg: leg[i],
+            parent: parents[i],
+            reason: reasons[i],
+        };
+        put_row(out, i * WIDTH, held);
     }
     tests
 }

@@ -92,12 +92,7 @@ pub(crate) fn put_rows<'a>(
     let pools = pack::section(pack, 4);
     let mut k = 0;
     for i in 0..n {
-        let x = Candidate {
-            program: programs[i],
-            at: at[i] as usize,
-            number: i as u32,
-            row: k,
-        };
+        let x = Candidate::nth(at, programs, i, k);
         let r = put_one(names, keys, pack, pools, mints, x, out);
         leg[i] = number(r, k);
         k += r;

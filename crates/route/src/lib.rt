@@ -49,7 +49,7 @@ pub struct RowsNeeded {
     pub natives: u32,
 }
 
-// Zeroes all five tables.
+// Zeroes all five tables. They go by themselves and not as one struct: one that holds five `&mut` owes for each, wherever it is lent, that it stays the same loan.
 fn clear(t0: &mut [u8], t1: &mut [u8], t2: &mut [u8], t3: &mut [u8], t4: &mut [u8])
     ensures { Cleared t0.new t1.new t2.new t3.new t4.new }
 {

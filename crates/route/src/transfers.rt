@@ -72,12 +72,7 @@ pub(crate) fn put_rows(
     let keys = pack::section(pack, 0);
     let mut k = 0;
     for i in 0..n {
-        let x = Candidate {
-            program: programs[i],
-            at: at[i] as usize,
-            number: i as u32,
-            row: k,
-        };
+        let x = Candidate::nth(at, programs, i, k);
         let r = put_one(keys, pack, mints, x, out);
         reasons[i] = r;
         k += rows(r);

@@ -20,7 +20,7 @@ loop-i-init c =
 
 pub put_one-k-requires : goal.put_one-k-requires
 put_one-k-requires c =
-    (omega arith, rw c.section-keys.ensures (c.requires.1 c.loop-i.i (omega arith)))
+    rw (c.section-keys.ensures, c.nth-x.ensures) (omega arith, c.requires.1 c.loop-i.i (omega arith))
 
 pub overflow_add-k : goal.overflow_add-k
 overflow_add-k c = omega (arith, c.put_one-k.ensures.few)
@@ -33,7 +33,7 @@ loop-i-preserved c =
     let put = c.put_one-k in
     let id = get_or a.programs.now l.i SplToken in
     let one : Puts a.mints.now (section_of a.pack.now 0) a.pack.now f action_width (candidate a.at.now id l.i l.k) put.result l.out put.new.out =
-    rw c.section-keys.ensures at put.ensures in (
+    rw (c.section-keys.ensures, c.nth-x.ensures) at put.ensures in (
       omega (arith, one.few),
       put.auto.out ∙ l.invariant.1,
       (fills-more a.mints.now a.pack.now a.at.now f id action_width l.i l.k put.result a.out.now l.out _ l.invariant.2 one),

@@ -23,4 +23,4 @@ returns c =
       c.put_u32.ensures,
       c.from.ensures,
     )
-    (ap (sets a.out.now a.at) (fields (zeros invocation_width) (position_of a.place) a.end a.bits a.leg a.parent a.reason refl))
+    (ap (sets a.out.now a.at) (fields (zeros invocation_width) (position_of a.held.place) a.held.end a.held.bits a.held.leg a.held.parent a.held.reason refl))

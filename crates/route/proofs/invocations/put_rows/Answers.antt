@@ -24,8 +24,8 @@ pub loop-i-init : goal.loop-i-init
 unfolding tab placed
 loop-i-init c = (refl, refl)
 
-pub bits-b-requires : goal.bits-b-requires
-bits-b-requires c = (omega arith, inside-le c.subtrees-tests.ensures c.loop-i.i)
+pub bits-requires : goal.bits-requires
+bits-requires c = (omega arith, inside-le c.subtrees-tests.ensures c.loop-i.i)
 
 -- no more than 1,024 invocations are all looked at
 blocked : {own ends inside parents : List ℕ} {tests : ℕ} (places : List Place) (n : ℕ) → n ≤ 1024 → Subtrees (positions places (taken n)) own tests ends inside parents → Subtrees (positions places n) own tests ends inside parents
@@ -41,7 +41,7 @@ loop-i-preserved c =
     let put = c.put_row in (
       put.auto.out ∙ l.invariant.0,
       placed-more invocation_width (row_at ps a.programs.now a.reasons.now a.leg.now) l.i a.out.now l.out _ l.invariant.1
-          (put.ensures ∙ rw (c.bits-b.ensures, ← (row_by a.n _ a.places.now a.programs.now a.reasons.now a.leg.now _ _ _ _ c.requires c.put_own.ensures blocks l.i (omega arith)))),
+          (put.ensures ∙ rw (c.bits.ensures, ← (row_by a.n _ a.places.now a.programs.now a.reasons.now a.leg.now _ _ _ _ c.requires c.put_own.ensures blocks l.i (omega arith)))),
     )
 
 pub shape_of-out : goal.shape_of-out

@@ -21,7 +21,7 @@ loop-i-init c =
 
 pub put_one-r-requires : goal.put_one-r-requires
 put_one-r-requires c =
-    (omega arith, rw c.section-keys.ensures (c.requires.1 c.loop-i.i (omega arith)))
+    rw (c.section-keys.ensures, c.nth-x.ensures) (omega arith, c.requires.1 c.loop-i.i (omega arith))
 
 pub number-requires : goal.number-requires
 number-requires c = (c.put_one-r.ensures.few, omega arith)
@@ -37,7 +37,7 @@ loop-i-preserved c =
     let put = c.put_one-r in
     let id = get_or a.programs.now l.i SplToken in
     let one : Puts a.mints.now (section_of a.pack.now 0) a.pack.now f leg_width (candidate a.at.now id l.i l.k) put.result l.out put.new.out =
-    rw (c.section-keys.ensures, c.section-pools.ensures) at put.ensures in (
+    rw (c.section-keys.ensures, c.section-pools.ensures, c.nth-x.ensures) at put.ensures in (
       omega (arith, one.few),
       put.auto.out ∙ l.invariant.1,
       (fills-more a.mints.now a.pack.now a.at.now f id leg_width l.i l.k put.result a.out.now l.out _ l.invariant.2 one),

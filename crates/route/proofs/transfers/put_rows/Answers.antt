@@ -25,7 +25,7 @@ loop-i-init c =
 
 pub put_one-r-requires : goal.put_one-r-requires
 put_one-r-requires c =
-    (omega arith, rw c.section-keys.ensures (c.requires.1 c.loop-i.i (omega arith)))
+    rw (c.section-keys.ensures, c.nth-x.ensures) (omega arith, c.requires.1 c.loop-i.i (omega arith))
 
 pub overflow_add-k : goal.overflow_add-k
 overflow_add-k c = omega (arith, c.rows-k.ensures, rows-le c.put_one-r.result)
@@ -39,8 +39,8 @@ loop-i-preserved c =
     let id = get_or a.programs.now l.i SplToken in
     let keys = c.section-keys.ensures in
     let one : Puts a.mints.now (section_of a.pack.now 0) a.pack.now f transfer_width (candidate a.at.now id l.i l.k) (transfer_count put.result) l.out put.new.out =
-    rw keys at put.ensures.puts in
-    let told : put.result ≡ reason_in (section_of a.pack.now 0) (item_at a.pack.now a.at.now l.i) = rw keys at put.ensures.value in (
+    rw (keys, c.nth-x.ensures) at put.ensures.puts in
+    let told : put.result ≡ reason_in (section_of a.pack.now 0) (item_at a.pack.now a.at.now l.i) = rw (keys, c.nth-x.ensures) at put.ensures.value in (
       omega (arith, c.rows-k.ensures, one.few),
       put.auto.out ∙ l.invariant.1,
       rw c.rows-k.ensures (fills-more a.mints.now a.pack.now a.at.now f id transfer_width l.i l.k (transfer_count put.result) a.out.now l.out _ l.invariant.2 one),
