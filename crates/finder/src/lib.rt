@@ -93,6 +93,7 @@ pub fn children(
         return 0;
     }
     let mut count = 0;
+    // A `while`: it goes on where a block ends.
     let mut at = i + 1;
     while at < run.places.len() && descendant(run.places[i], run.places[at]) {
         list[count] = at as u32;

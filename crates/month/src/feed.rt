@@ -73,6 +73,7 @@ pub(crate) fn feed(report: &mut [u8], rows: usize, t: &[u8]) -> usize
         × (result ≡ used (fed_into (rows_to report.old rows) (transfers_in t.now))) }
 {
     let mut wait = [0usize; 1024];
+    // A `while`: a walk says where it ended.
     let mut used = rows;
     let mut from = 0;
     while from < t.len() / TRANSFER {

@@ -39,7 +39,7 @@ fn keeps(s: &[u8], o: usize, g: usize) -> bool
     (wire::u32_at(s, g) as usize) < o && 0 < wire::u16_at(s, g + 4)
 }
 
-// Where the groups that are remembered start.
+// Where the groups that are remembered start. A `while`: a group says where the next one starts.
 fn kept_places(s: &[u8], o: usize, place: &mut [u16; 1024]) -> usize
     requires { (groups_whole s.now ≡ true) × (length (kept_at s.now o) ≤ 1024) × (length s.now ≤ 61440) }
     ensures { (result ≡ length (kept_at s.now o)) × (place.new ≡ sets place.old 0 (kept_at s.now o)) }

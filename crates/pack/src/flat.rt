@@ -63,6 +63,7 @@ fn own_groups(
     requires s_bound_2 { way.base + length s.now ≤ 61440 }
     ensures { Wrote (inside_at s.now way.base way.outer (groups_at s.now)) way.index result at.old at.new places.old places.new }
 {
+    // A `while`: the chain says which group comes next.
     let mut c = chains.first[way.outer as usize] as usize;
     while 0 < c {
         way.index = members(s, chains.place[c - 1] as usize, way, at, places);
@@ -85,6 +86,7 @@ fn spread(pack: &[u8], chains: &Chains, at: &mut [u32; 1024], places: &mut [Plac
         outer: 0,
         index: 0,
     };
+    // A `while`: an instruction says where the next one starts.
     let mut to = 0;
     while to < outs.len() {
         at[way.index] = (from + to) as u32;

@@ -19,7 +19,7 @@ pub(crate) fn balances(s: &[u8], keys: usize) -> bool
     (0..s.len() / 36).all(|i| (super::four(s, i * 36) as usize) < keys)
 }
 
-// Section 2: instructions.
+// Section 2: instructions. A `while`, as in the other walks over items: each item says by its bytes where the next one starts.
 pub(crate) fn outers(s: &[u8]) -> Option<usize>
     ensures { result ≡ cond (outers_whole s.now) (Some (length (outer_in s.now))) None }
 {
@@ -84,7 +84,7 @@ fn kept(s: &[u8], at: usize, o: usize, n: usize) -> usize
     }
 }
 
-// Section 3: groups; how many instructions those hold that name one of the o outer instructions.
+// Section 3: groups; how many instructions those hold that name one of the o outer instructions. A `while`: a group says where the next one starts.
 pub(crate) fn groups(s: &[u8], o: usize) -> Option<usize>
     ensures { result ≡ cond (groups_whole s.now) (Some (kept_in o (groups_in s.now))) None }
 {

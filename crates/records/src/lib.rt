@@ -162,6 +162,7 @@ pub fn run<C: Call, R: Read, W: Write>(
         answers: 0,
         different: 0,
     };
+    // A `while`: the count is in the totals.
     while totals.answers < u32::MAX {
         let Some(n) = next_length(alloc, input)? else {
             break;

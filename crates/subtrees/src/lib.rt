@@ -52,6 +52,7 @@ fn step(
     requires parented { Parented (positions places.now n) parents.old (i + 1) }
     ensures { Stepped (positions places.now n) own.now i result.end result.inside result.tests parents.new }
 {
+    // A `while`: it goes on where a block ends.
     let mut e = i + 1;
     let mut bits: u8 = 0;
     let mut tests: u32 = 0;
