@@ -79,26 +79,6 @@ gather-pass ks p offsets row s i is e = rw (add-one i, e, ← is)
 pub programs-all : (ks p offsets : List ℕ) (l : List Id) {u : List Id} {i : ℕ} → i ≡ length offsets → u ≡ sets l 0 (take i (programs_of ks p offsets)) → u ≡ sets l 0 (programs_of ks p offsets)
 programs-all ks p offsets l {u} {i} n e = e ∙ ap (sets l 0) (take_all i (programs_of ks p offsets) (omega (arith, programs-length ks p offsets)))
 
--- an instruction of a token program
-pub gather-next : (ks p offsets row : List ℕ) (s : Gathered) (i : ℕ) {token : Token} {a : List ℕ} {t t' : List Row} {ts ts' : List Transfer} {room count room' count' : ℕ}
-    → gather_to ks p offsets row s i ≡ record { noted = record { table = t; room = room }; transfers = ts; count = count }
-    → Some token ≡ token_at ks p (get_or offsets i 0)
-    → a ≡ (instruction_at p (get_or offsets i 0)).accounts
-    → observed (key_of ks) row token a (record { table = t; room = room }) ≡ record { table = t'; room = room' }
-    → count' ≡ cond (is_plain token) (suc count) count
-    → ts' ≡ cond (is_plain token) (set ts count (transfer_of row a)) ts
-    → gather_to ks p offsets row s (i + 1) ≡ record { noted = record { table = t'; room = room' }; transfers = ts'; count = count' }
-unfolding gather_to gather_at
-gather-next ks p offsets row s i e is has seen c x = rw (add-one i, e, ← is, ← has, seen, c, x)
-
--- the bounds that a turn keeps
-pub room_next : (ks row : List ℕ) (token : Token) (a : List ℕ) (x : Noted) (i : ℕ) {t : List Row} {room : ℕ} → observed (key_of ks) row token a x ≡ record { table = t; room = room } → x.room ≤ i * 2 → room ≤ (i + 1) * 2
-room_next ks row token a x i e h = omega (arith, ap (λ (y : Noted). y.room) e, two-more (key_of ks) row token a x)
-
-pub count_next : (b : Bool) (count i : ℕ) {n : ℕ} → n ≡ cond b (suc count) count → count ≤ i → n ≤ i + 1
-count_next true count i e h = omega arith
-count_next false count i e h = omega arith
-
 -- what was counted before is counted on top
 abbrev on-top : ℕ → Noted → Noted
 on-top k x = record { table = x.table; room = k + x.room }
@@ -115,12 +95,42 @@ module _ (κ : ℕ → Key) (row : List ℕ) (k : ℕ) where
   observed-on-top (Checked n) a x = rw (account-on-top a x 0) (account-on-top a (note_account κ row a x 0) 2)
   observed-on-top (WithFee n f) a x = rw (account-on-top a x 0) (account-on-top a (note_account κ row a x 0) 2)
 
+  -- so what is recorded when nothing is counted yet is what a count grows by
+  pub account-counted : (a : List ℕ) (t : List Row) (i : ℕ) {u : List Row} {n : ℕ} → note_account κ row a (record { table = t; room = 0 }) i ≡ record { table = u; room = n }
+      → note_account κ row a (record { table = t; room = k }) i ≡ record { table = u; room = k + n }
+  account-counted a t i e = rw add-zero at (account-on-top a (record { table = t; room = 0 }) i) ∙ ap (on-top k) e
+
+  pub observed-counted : (token : Token) (a : List ℕ) (t : List Row) {u : List Row} {n : ℕ} → observed κ row token a (record { table = t; room = 0 }) ≡ record { table = u; room = n }
+      → observed κ row token a (record { table = t; room = k }) ≡ record { table = u; room = k + n }
+  observed-counted token a t e = rw add-zero at (observed-on-top token a (record { table = t; room = 0 })) ∙ ap (on-top k) e
+
+-- an instruction of a token program
+pub gather-next : (ks p offsets row : List ℕ) (s : Gathered) (i : ℕ) {token : Token} {a : List ℕ} {t t' : List Row} {ts ts' : List Transfer} {room count more count' : ℕ}
+    → gather_to ks p offsets row s i ≡ record { noted = record { table = t; room = room }; transfers = ts; count = count }
+    → Some token ≡ token_at ks p (get_or offsets i 0)
+    → a ≡ (instruction_at p (get_or offsets i 0)).accounts
+    → observed (key_of ks) row token a (record { table = t; room = 0 }) ≡ record { table = t'; room = more }
+    → count' ≡ cond (is_plain token) (suc count) count
+    → ts' ≡ cond (is_plain token) (set ts count (transfer_of row a)) ts
+    → gather_to ks p offsets row s (i + 1) ≡ record { noted = record { table = t'; room = room + more }; transfers = ts'; count = count' }
+unfolding gather_to gather_at
+gather-next ks p offsets row s i {token} {a} {t} {room = room} e is has seen c x = rw (add-one i, e, ← is, ← has, observed-counted (key_of ks) row room token a t seen, c, x)
+
+-- the bounds that a turn keeps
+pub room_next : (ks row : List ℕ) (token : Token) (a : List ℕ) (t : List Row) (room i : ℕ) {u : List Row} {more : ℕ} → observed (key_of ks) row token a (record { table = t; room = 0 }) ≡ record { table = u; room = more } → room ≤ i * 2 → room + more ≤ (i + 1) * 2
+room_next ks row token a t room i e h = omega (arith, ap (λ (y : Noted). y.room) e, two-more (key_of ks) row token a (record { table = t; room = 0 }))
+
+pub count_next : (b : Bool) (count i : ℕ) {n : ℕ} → n ≡ cond b (suc count) count → count ≤ i → n ≤ i + 1
+count_next true count i e h = omega arith
+count_next false count i e h = omega arith
+
+module _ (κ : ℕ → Key) (row : List ℕ) (k : ℕ) where
   gather-at-top : (token : Option Token) (a : List ℕ) (g : Gathered)
       → gather_at κ row token a (record { noted = on-top k g.noted; transfers = g.transfers; count = g.count })
       ≡ record { noted = on-top k (gather_at κ row token a g).noted; transfers = (gather_at κ row token a g).transfers; count = (gather_at κ row token a g).count }
   unfolding gather_at
   gather-at-top None a g = refl
-  gather-at-top (Some token) a g = rw (observed-on-top token a g.noted)
+  gather-at-top (Some token) a g = rw (observed-on-top κ row k token a g.noted)
 
 pub gather-on-top : (ks p offsets row : List ℕ) (k : ℕ) (s : Gathered) (i : ℕ)
     → gather_to ks p offsets row (record { noted = on-top k s.noted; transfers = s.transfers; count = s.count }) i

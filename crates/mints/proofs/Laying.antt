@@ -7,15 +7,17 @@ use mathlib.Core.List.{List}
 use Prim.Native.Nat.{ℕ, suc, ◌+◌, ◌≤◌, ◌<◌}
 use native.Mathlib.Numerals.{add-one}
 use native.Mathlib.Omega.{arith}
-use borrow.Author.Tests.{eqb-true, eqb-false, ltb-true, ltb-false}
+use borrow.Author.Tests.{eqb-true, eqb-false, eq-eqb, ne_eqb, ltb-true, ltb-false}
 use lib.Dec.{ltb, eqb}
-use lib.ListN.{length, get_or, set}
-use lib.Seq.{get_or-set_same, get_or-set_other}
+use lib.ListN.{length, get_or, set, take}
+use lib.Seq.{get_or-set_same, get_or-set_other, length-take-le}
+use Rattle.std.specs.Prelude.{Option, Some, None, is_some, unwrap_or}
+use Rattle.mints.proofs.Search.{search-before, within}
 use Rattle.mints.specs.declared.row.Row.{Row}
 use Rattle.mints.proofs.Fields.{account-other, account-here}
 use Rattle.ids.specs.Keys.{Key}
 use Rattle.mints.specs.Cells.{account_at, first_row, with_account, LastBytesSeen}
-use Rattle.mints.specs.Lay.{KeyRows, lay_at, lay_key, lay_to}
+use Rattle.mints.specs.Lay.{found_row, KeyRows, lay_at, lay_key, lay_to}
 
 -- a search and what follows from it
 pub lay-next : (κ : ℕ → Key) (t : List Row) (row : List ℕ) (i : ℕ) (s : KeyRows) {k : Key} {r n : ℕ} {u : List Row} → lay_to κ t row i ≡ s → k ≡ κ i → r ≡ first_row s.table k s.rows
@@ -24,6 +26,34 @@ pub lay-next : (κ : ℕ → Key) (t : List Row) (row : List ℕ) (i : ℕ) (s :
     → lay_to κ t row (i + 1) ≡ record { table = u; row = set s.row i r; rows = n }
 unfolding lay_to lay_key lay_at
 lay-next κ t row i s e f g h j = rw (add-one i, e, ← f, ← g, ← h, ← j)
+
+-- a search in the n rows that are laid, as what it is in the whole table; and what is added where it found none
+pub laid-by-search : (t : List Row) (k : Key) (n : ℕ) {found : Option ℕ} {r m : ℕ} {u : List Row} → n ≤ length t → found ≡ found_row (take n t) k → r ≡ unwrap_or found n
+    → u ≡ cond (is_some found) t (with_account t n k)
+    → m ≡ cond (is_some found) n (suc n)
+    → (r ≡ first_row t k n) × (u ≡ cond (eqb r n) (with_account t r k) t) × (m ≡ cond (eqb r n) (suc n) n)
+unfolding found_row
+laid-by-search t k n h e hr hu hm = rw (hr, hu, hm, e, searched) (go (ltb first n) refl)
+  where
+    first : ℕ
+    first = first_row t k n
+
+    searched : found_row (take n t) k ≡ cond (ltb first n) (Some first) None
+    searched = rw (length-take-le n t h, search-before t n k n 0 (omega arith)) refl
+
+    go : (b : Bool) → ltb first n ≡ b
+        → (unwrap_or (cond b (Some first) None) n ≡ first)
+        × (cond (is_some (cond b (Some first) None)) t (with_account t n k) ≡ cond (eqb (unwrap_or (cond b (Some first) None) n) n) (with_account t (unwrap_or (cond b (Some first) None) n) k) t)
+        × (cond (is_some (cond b (Some first) None)) n (suc n) ≡ cond (eqb (unwrap_or (cond b (Some first) None) n) n) (suc n) n)
+    go true p =
+        let other = ne_eqb first n (λ q. omega (arith, ltb-true first n p, q)) in
+        (refl, rw other refl, rw other refl)
+    go false p =
+        let same = eq-eqb n n refl in
+        (omega (arith, ltb-false first n p, within t k n 0), rw same refl, rw same refl)
+
+pub found-within : (t : List Row) (k : Key) (n : ℕ) {found : Option ℕ} {r : ℕ} → n ≤ length t → found ≡ found_row (take n t) k → r ≡ unwrap_or found n → r ≤ n
+found-within t k n h e hr = omega (arith, (laid-by-search t k n h e hr refl refl).0, within t k n 0)
 
 -- at most one row more
 pub one-row : (r n : ℕ) → cond (eqb r n) (suc n) n ≤ suc n

@@ -1,6 +1,6 @@
 -- The place of a row among the ordered rows, which rows these are, and that they ascend: each is put in before the first that is greater.
 -- Assumes nothing.
-use mathlib.Core.Path.{◌≡◌, refl, sym, ◌∙◌}
+use mathlib.Core.Path.{◌≡◌, refl, sym, ap, ◌∙◌}
 use mathlib.Core.Logic.{◌⊎◌, inl, inr, ⊎_elim, by_cases}
 use native.Mathlib.Decide.{dec_lt}
 use mathlib.Core.Bool.{Bool, true, false, cond, false≢true}
@@ -12,13 +12,16 @@ use native.Mathlib.Numerals.{add-one}
 use native.Mathlib.Omega.{arith}
 use borrow.Author.Tests.{ltb-true, lt-ltb}
 use lib.Dec.{ltb}
-use lib.ListN.{length, get_or, length-append, length-take, length-drop, get_or-eq_default}
+use lib.Seq.{length-take-le}
+use Rattle.std.proofs.lemmas.List.{get_or-take}
+use Rattle.mints.proofs.Search.{account-before}
+use lib.ListN.{length, get_or, take, length-append, length-take, length-drop, get_or-eq_default}
 use Rattle.wire.specs.Order.{lt_key, Below}
 use Rattle.wire.proofs.Order.{below-trans, Order, order, less, level, more, lt_key-below, lt_key-above, lt_key-true}
 use Rattle.wire.proofs.Ascending.{put-mem, mem-put}
 use Rattle.ids.specs.Keys.{Key}
 use Rattle.mints.specs.declared.row.Row.{Row}
-use Rattle.mints.specs.Cells.{account_at, state_at, Fits}
+use Rattle.mints.specs.Cells.{no_row, number_of, account_at, state_at, Fits}
 use Rattle.mints.specs.Order.{spot_in, Rising, rising_nil, rising_cons, put_in, sort_to}
 
 pub spot-bound : (t : List Row) (r : ℕ) (l : List ℕ) → spot_in t r l ≤ length l
@@ -145,6 +148,24 @@ module _ (t : List Row) where
           clash : ltb 1 (state_at t r) ≡ false → ¬ (1 < state_at t r)
           clash e k = let z : ◌≡◌ {A = ℕ} 0 1 = absurd (false≢true (sym e ∙ lt-ltb _ _ k)) in omega arith
       go false e (inr k) f = f k
+
+-- the order of the first n rows is told by these alone
+module _ (t : List Row) (n : ℕ) where
+  spot-alone : (r : ℕ) → r < n → (l : List ℕ) → ((q : ℕ) → Memᴰ q l → q < n) → spot_in (take n t) r l ≡ spot_in t r l
+  unfolding spot_in
+  spot-alone r h [] f = refl
+  spot-alone r h (q ∷ l) f = rw (account-before t n r h, account-before t n q (f q (Memᴰ.head refl)), spot-alone r h l (λ x i. f x (Memᴰ.tail i))) refl
+
+  sort-alone : (m : ℕ) → m ≤ n → sort_to (take n t) m ≡ sort_to t m
+  unfolding sort_to
+  sort-alone zero h = refl
+  sort-alone (suc r) h =
+      let state : state_at (take n t) r ≡ state_at t r = ap (λ (x : Row). number_of x.state) (get_or-take n t r no_row (omega arith)) in
+      let spot = spot-alone r (omega arith) (sort_to t r) (λ q i. omega (arith, (sorted-mem t r i).0)) in
+      rw (state, sort-alone r (omega arith), spot) refl
+
+  pub sort-first : n ≤ length t → sort_to (take n t) (length (take n t)) ≡ sort_to t n
+  sort-first h = rw (length-take-le n t h) (sort-alone n (omega arith))
 
 -- the ordered rows are whole
 pub sort-fits : (t : List Row) (n : ℕ) → n ≤ length t → 0 < length t → Fits t (sort_to t n)

@@ -1,10 +1,14 @@
 -- The rows of the keys, and the row of each key index.
 -- Assumes nothing.
-use Rattle.std.specs.Prelude.{ℕ, zero, suc, cond, List, eqb, set}
+use Rattle.std.specs.Prelude.{ℕ, zero, suc, cond, List, eqb, ltb, length, set, Option, Some, None}
 use Rattle.ids.specs.Keys.{Key}
 use Rattle.mints.specs.declared.row.Row.{Row}
 use Rattle.mints.specs.declared.row.State.TheVariants.{Ambiguous}
 use Rattle.mints.specs.Cells.{first_row, with_account, with_state}
+
+-- the first of the table's rows whose account is k, if one is
+unfoldable pub found_row : List Row → Key → Option ℕ
+found_row t k = let r = first_row t k (length t) in cond (ltb r (length t)) (Some r) None
 
 -- what is left when keys are laid
 pub record KeyRows : Type 0 where

@@ -93,7 +93,7 @@ fn publish(
     ensures known_after { known.new ≡ sets known.old 0 (mints_to table.now row.now n) }
 {
     let mut order = [0u32; 257];
-    let k = order::sort(table, rows, &mut order);
+    let k = order::sort(&table[..rows], &mut order);
     order::write_rows(table, &order[..k], out);
     order::write_mints(table, &row[..n], known);
     k

@@ -87,44 +87,30 @@ fn account_key<'a>(keys: &'a [u8], blank: &'a [u8], accounts: &[u8], i: usize) -
     }
 }
 
-// Records the mint that account 1 names for account i; answers how many accounts are recorded then.
-fn note_account(
-    keys: &[u8],
-    accounts: &[u8],
-    row: &[u32],
-    table: &mut [Row],
-    room: usize,
-    i: usize,
-) -> usize
-    requires { (room ≤ 2305843009213693952) × Fits table.old row.now }
-    ensures { note_account (key_of keys.now) row.now accounts.now (record { table = table.entry.now; room = room }) i
+// Records the mint that account 1 names for account i; answers how many accounts more are recorded.
+fn note_account(keys: &[u8], accounts: &[u8], row: &[u32], table: &mut [Row], i: usize) -> usize
+    requires { Fits table.old row.now }
+    ensures { note_account (key_of keys.now) row.now accounts.now (record { table = table.entry.now; room = 0 }) i
         ≡ record { table = table.exit.now; room = result } }
 {
     let blank = [0u8; 32];
     let mint = account_key(keys, &blank, accounts, 1);
     let r = account_row(row, accounts, i);
-    room + note(table, r, mint)
+    note(table, r, mint)
 }
 
-// Records what a token instruction tells; answers how many accounts are recorded then.
-fn observe(
-    token: Token,
-    keys: &[u8],
-    accounts: &[u8],
-    row: &[u32],
-    table: &mut [Row],
-    room: usize,
-) -> usize
-    requires { (room ≤ 1152921504606846976) × Fits table.old row.now }
-    ensures { observed (key_of keys.now) row.now token accounts.now (record { table = table.entry.now; room = room })
+// Records what a token instruction tells; answers how many accounts more are recorded.
+fn observe(token: Token, keys: &[u8], accounts: &[u8], row: &[u32], table: &mut [Row]) -> usize
+    requires { Fits table.old row.now }
+    ensures { observed (key_of keys.now) row.now token accounts.now (record { table = table.entry.now; room = 0 })
         ≡ record { table = table.exit.now; room = result } }
 {
     match token {
-        Token::Initialise => note_account(keys, accounts, row, table, room, 0),
-        Token::Plain(_) => room,
+        Token::Initialise => note_account(keys, accounts, row, table, 0),
+        Token::Plain(_) => 0,
         Token::Checked(_) | Token::WithFee(_, _) => {
-            let n = note_account(keys, accounts, row, table, room, 0);
-            note_account(keys, accounts, row, table, n, 2)
+            let source = note_account(keys, accounts, row, table, 0);
+            source + note_account(keys, accounts, row, table, 2)
         }
     }
 }
@@ -205,7 +191,7 @@ pub(crate) fn gather(
         let Some(token) = token::parse(id, accounts.len(), pack::data(pack, o)) else {
             continue;
         };
-        room = observe(token, keys, accounts, row, table, room);
+        room += observe(token, keys, accounts, row, table);
         count = list(token, accounts, row, transfers, count);
     }
     Gathered { room, count }

@@ -38,12 +38,12 @@ fn insert(order: &mut [u32], j: usize, k: usize, r: u32)
 }
 
 // The rows with a mint, in order; answers how many they are.
-pub(crate) fn sort(table: &[Row], rows: usize, order: &mut [u32]) -> usize
-    requires { (rows ≤ length order.old) × (rows ≤ length table.now) × (length table.now ≤ 65536) }
-    ensures { (result ≡ length (sort_to table.now rows)) × (take result order.new ≡ sort_to table.now rows) }
+pub(crate) fn sort(table: &[Row], order: &mut [u32]) -> usize
+    requires { (length table.now ≤ length order.old) × (length table.now ≤ 65536) }
+    ensures { (result ≡ length (sort_to table.now (length table.now))) × (take result order.new ≡ sort_to table.now (length table.now)) }
 {
     let mut k = 0;
-    for r in 0..rows {
+    for r in 0..table.len() {
         if !table[r].state.has_mint() {
             continue;
         }

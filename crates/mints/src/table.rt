@@ -2,54 +2,54 @@
 //
 // Row 0 is the zero key's. It is ambiguous from the start, so a missing account records nothing, hands on nothing and is never written, and
 // no other function has to look for it.
-ghost use Rattle.std.specs.Prelude.{◌≡◌, cond, suc, ◌≤◌, eqb, length};
+ghost use Rattle.std.specs.Prelude.{◌≡◌, cond, suc, ◌≤◌, length, Option, is_some};
 ghost use Rattle.ids.specs.Keys.{key_count, key_of};
-ghost use Rattle.mints.specs.Cells.{first_row, with_account, LastBytesSeen};
-ghost use Rattle.mints.specs.Lay.{laid};
+ghost use Rattle.mints.specs.Cells.{with_account, LastBytesSeen};
+ghost use Rattle.mints.specs.Lay.{found_row, laid};
 
 use crate::row::{Row, State};
 
-// The first of the table's rows that holds the key, or `rows` where none does. Like `wire::equal` it compares the last bytes first; the scope names the form
-// of this search, so the comparison stands in it.
-fn find(table: &[Row], rows: usize, key: &[u8]) -> usize
-    requires { (length key.now ≡ 32) × (rows ≤ length table.now) }
-    ensures { result ≡ first_row table.now key.now rows }
+// The first of the rows that holds the key. Like `wire::equal` it compares the last bytes first; the scope names the form of this search, so the comparison
+// stands in it.
+fn find(table: &[Row], key: &[u8]) -> Option<usize>
+    requires { length key.now ≡ 32 }
+    ensures { result ≡ found_row table.now key.now }
 {
-    'rows: for i in 0..rows {
+    'rows: for i in 0..table.len() {
         let account = table[i].account();
         for j in 0..32 {
             if account[31 - j] != key[31 - j] {
                 continue 'rows;
             }
         }
-        return i;
+        return Some(i);
     }
-    rows
+    None
 }
 
 // The same where `ends` tells which last bytes the rows' accounts have: a key with another one is new, and most new keys are found so without a search.
-fn row_for(table: &[Row], rows: usize, ends: &[u8; 256], key: &[u8]) -> usize
-    requires { (length key.now ≡ 32) × (rows ≤ length table.now) × LastBytesSeen table.now rows ends.now }
-    ensures { result ≡ first_row table.now key.now rows }
+fn row_for(table: &[Row], ends: &[u8; 256], key: &[u8]) -> Option<usize>
+    requires { (length key.now ≡ 32) × LastBytesSeen table.now (length table.now) ends.now }
+    ensures { result ≡ found_row table.now key.now }
 {
     if ends[wire::byte(key, 31) as usize] == 0 {
-        return rows;
+        return None;
     }
-    find(table, rows, key)
+    find(table, key)
 }
 
 // Adds a row for the key where the search found none; answers how many rows there are then.
 #[tactic(auto, unfolding(crate::specs::Cells::with_account))]
-fn add(table: &mut [Row], rows: usize, r: usize, key: &[u8]) -> usize
+fn add(table: &mut [Row], rows: usize, found: Option<usize>, key: &[u8]) -> usize
     requires { (suc rows ≤ length table.old) × (length key.now ≡ 32) }
-    ensures table_after { table.new ≡ cond (eqb r rows) (with_account table.old r key.now) table.old }
-    ensures value { result ≡ cond (eqb r rows) (suc rows) rows }
+    ensures table_after { table.new ≡ cond (is_some found) table.old (with_account table.old rows key.now) }
+    ensures value { result ≡ cond (is_some found) rows (suc rows) }
 {
-    if r == rows {
-        table[r].account.copy_from_slice(key);
-        return rows + 1;
+    if found.is_some() {
+        return rows;
     }
-    rows
+    table[rows].account.copy_from_slice(key);
+    rows + 1
 }
 
 // Lays the rows of the keys into the table, and the row of each key index into `row`; answers how many rows there are. Whatever `ends` holds, the last
@@ -65,10 +65,10 @@ fn lay_marking(keys: &[u8], table: &mut [Row], row: &mut [u32], ends: &mut [u8; 
     let mut rows = 1;
     for i in 0..keys.len() / 33 {
         let key = ids::key(keys, &blank, i);
-        let r = row_for(table, rows, ends, key);
-        rows = add(table, rows, r, key);
+        let found = row_for(&table[..rows], ends, key);
+        row[i] = found.unwrap_or(rows) as u32;
+        rows = add(table, rows, found, key);
         ends[wire::byte(key, 31) as usize] = 1;
-        row[i] = r as u32;
     }
     rows
 }

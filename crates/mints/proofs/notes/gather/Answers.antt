@@ -59,7 +59,12 @@ loop-i-preserved-in_default c =
     )
 
 pub observe-room-requires : goal.observe-room-requires
-observe-room-requires c = (omega arith, λ i. rw c.loop-i.invariant.0 (c.requires.fits.0 i))
+observe-room-requires c = λ i. rw c.loop-i.invariant.0 (c.requires.fits.0 i)
+
+pub overflow_add-room : goal.overflow_add-room
+overflow_add-room c =
+    let l = c.loop-i in
+    omega (arith, l.invariant.2, room_next c.args.keys.now c.args.row.now c.in-Some.token c.accounts-accounts.result.now l.table l.room l.i c.observe-room.ensures l.invariant.2)
 
 pub list-count-requires : goal.list-count-requires
 list-count-requires c = omega (arith, c.loop-i.invariant.1, c.requires.at_in_bounds.0)
@@ -82,7 +87,7 @@ loop-i-preserved c =
     let q = c.list-count.ensures in (
       kept ∙ l.invariant.0,
       listed ∙ l.invariant.1,
-      room_next ks row c.in-Some.token c.accounts-accounts.result.now (record { table = l.table; room = l.room }) l.i c.observe-room.ensures l.invariant.2,
+      room_next ks row c.in-Some.token c.accounts-accounts.result.now l.table l.room l.i c.observe-room.ensures l.invariant.2,
       count_next (is_plain c.in-Some.token) l.count l.i q.value l.invariant.3,
       gather-next ks p o row (record { noted = record { table = a.table.now; room = 0 }; transfers = a.transfers.now; count = 0 }) l.i l.invariant.4 token c.accounts-accounts.ensures c.observe-room.ensures q.value q.transfers_after,
       program-next ks p o l.i few filled program id c.loop-i-test.true a.programs.now l.invariant.5,

@@ -3,6 +3,7 @@ use lib.ListN.{length}
 use Rattle.mints.specs.Note.{Noted}
 use Rattle.mints.specs.Gather.{observed}
 use Rattle.mints.proofs.Noting.{one_more}
+use Rattle.mints.proofs.Gathering.{account-counted}
 use Rattle.ids.specs.Keys.{key_of}
 use mathlib.Core.Logic.{⊎_elim}
 use mathlib.Core.Path.{◌≡◌, ap}
@@ -11,11 +12,22 @@ use Rattle.mints.proofs.notes.observe.Goals as goal
 
 pub note_account-requires-in-Checked : goal.note_account-requires-in-Checked
 note_account-requires-in-Checked c =
-    let note-account = c.note_account-n in
+    let source = c.note_account-source in
+    let k : length source.new.table ≡ length c.args.table.now = source.auto.table in
+    λ i. rw k (c.requires i)
+
+pub overflow_add-result : goal.overflow_add-result
+overflow_add-result c =
     let a = c.args in
-    let k : length note-account.new.table ≡ length a.table.now = note-account.auto.table in (
-      omega (arith, ap (λ (x : Noted). x.room) note-account.ensures, one_more (key_of a.keys.now) a.row.now a.accounts.now (record { table = a.table.now; room = a.room }) 0),
-      λ i. rw k (c.requires.1 i),
+    let κ = key_of a.keys.now in
+    let recorded = λ (x : Noted). x.room in
+    let s = c.note_account-source in
+    omega (
+      arith,
+      ap recorded s.ensures,
+      one_more κ a.row.now a.accounts.now (record { table = a.table.now; room = 0 }) 0,
+      ap recorded c.note_account-in-Checked.ensures,
+      one_more κ a.row.now a.accounts.now (record { table = s.new.table; room = 0 }) 2,
     )
 
 pub returns-in-Initialise : goal.returns-in-Initialise
@@ -29,6 +41,7 @@ returns-in-Plain c = rw c.in-Plain.is
 pub returns-in-Checked : goal.returns-in-Checked
 unfolding observed
 returns-in-Checked c =
-    let p = c.note_account-n.ensures in
-    let q = c.note_account-in-Checked.ensures in
+    let a = c.args in
+    let p = c.note_account-source.ensures in
+    let q = account-counted (key_of a.keys.now) a.row.now c.note_account-source.result a.accounts.now c.note_account-source.new.table 2 c.note_account-in-Checked.ensures in
     ⊎_elim (λ k. rw k.1 (rw p q)) (λ k. rw k.2 (rw p q)) c.in-Checked.is

@@ -47,5 +47,5 @@ shape_of-order c = c.loop-r.invariant.0
 pub returns : goal.returns
 returns c =
     let l = c.loop-r in
-    let n : l.r ≡ c.args.rows = omega arith in
+    let n : l.r ≡ length c.args.table.now = omega arith in
     (rw n at l.invariant.2, rw n at l.invariant.3)
