@@ -1,8 +1,8 @@
 #!/usr/bin/env python3
 """Lists the definitions and lemmas of crates/ that nothing names: python3 compare/unused.py
 
-A name is in use where a file of crates/ that has it, its own or by a `use` line, names it outside its own declaration, or where a document names it in
-backquotes. In the proof of a function the statements that the prover asks for (`goal.`) are in use. Exits 1 where it lists anything.
+A name is in use where a file of crates/ that has it, its own or by a `use` line, names it outside its own declaration, where an attribute of a function or a
+set of rules names it, or where a document names it in backquotes. In the proof of a function the statements that the prover asks for (`goal.`) are in use. Exits 1 where it lists anything.
 """
 
 import re
@@ -15,6 +15,9 @@ WORD = re.compile(r"[^\s(){}\[\],;.:]+")
 KIND = re.compile(r" *(?:(?:pub|unfoldable|abbrev|opaque|data|record) )*")
 USE = re.compile(r"(?:ghost |pub )*use Rattle\.(\w+)\.(specs|proofs)\.(\S+?)\.\{(.*)\};?$")
 ALIAS = re.compile(r"(?:ghost |pub )*use Rattle\.(\w+)\.(specs|proofs)\.(\S+) as (\S+?);?$")
+# A definition or lemma that an attribute names: `crate::proofs::Numbers::another`.
+CITED = re.compile(r"(\w+)::(specs|proofs)::([\w:]+)::(\w+)")
+RULES = re.compile(r" *(?:pub )?ruleset ")
 # The files of a function's proof: what they declare of `goal` is asked by the prover.
 PROOFS = ("Answers.antt", "Invariants.antt")
 
@@ -47,6 +50,8 @@ def parts(text):
         if line.lstrip().startswith("module _"):
             level = indent + 2
             found.append(("", []))
+        elif RULES.match(line):
+            found.append(("", []))
         elif indent == level and (name := declares(line)) and name != found[-1][0]:
             found.append((name, []))
         found[-1][1].extend(words(line))
@@ -72,6 +77,8 @@ def main():
                 for name in set(re.findall(rf"(?<![\w·-]){re.escape(alias[4])}\.([^\s(){{}}\[\],;.:]+)", text)):
                     named[alias[1], alias[2], alias[3]].add(name)
         if path.suffix != ".antt":
+            for of, kind, where, name in CITED.findall(text):
+                named[crate if of == "crate" else of, kind, where.replace("::", ".")].add(name)
             continue
         here = named[crate, area, module]
         counts = defaultdict(int)

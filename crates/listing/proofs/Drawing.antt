@@ -57,10 +57,6 @@ pub front : (l : List ℕ) → take (length l) (filled l) ≡ l
 unfolding filled
 front l = take_at l (zeros (1024 - length l)) (length l) refl
 
-pub front-room : (l : List ℕ) → length l ≤ length (filled l)
-unfolding filled
-front-room l = rw (length-append l (zeros (1024 - length l))) (omega arith)
-
 -- the line of an invocation, by what was found of it
 pub branch-found : (ps : List Position) (own : List ℕ) (i : ℕ) (r : Found) (list : List ℕ) (count : ℕ)
     → FoundBlock ps own i r → list ≡ filled (children_of ps i) → count ≡ length (children_of ps i) → branch r.end r.inside (take count list) ≡ branch_of ps own i

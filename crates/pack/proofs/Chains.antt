@@ -34,15 +34,6 @@ module _ (s gs : List ℕ) (k m : ℕ) (after : m ≡ k + 1) where
 
 -- where the first group can stand
 module _ (s : List ℕ) (i : ℕ) where
-  pub first-le : (gs : List ℕ) (k : ℕ) → first_group_from s i k gs ≤ k + length gs
-  unfolding first_group_from
-  first-le [] k = omega arith
-  first-le (g ∷ gs) k = go (eqb (le 4 s g) i) (first-le gs (suc k))
-    where
-      go : (t : Bool) → first_group_from s i (suc k) gs ≤ suc k + length gs → cond t (suc k) (first_group_from s i (suc k) gs) ≤ k + suc (length gs)
-      go true h = omega arith
-      go false h = omega arith
-
   pub first-later : (gs : List ℕ) (k : ℕ) → (first_group_from s i k gs ≡ 0 → ⊥) → k < first_group_from s i k gs
   unfolding first_group_from
   first-later [] k n = absurd (n refl)

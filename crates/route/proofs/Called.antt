@@ -1,4 +1,4 @@
--- From what `clear` and `fill` leave to what the public call promises: a success is left as it was filled, and whatever is refused is zero.
+-- From what `clear` and `fill` leave to what the public call promises of a refusal: whatever is refused is zero. (The check finds that a success is left as it was filled.)
 -- Assumes nothing.
 use mathlib.Core.Path.{◌≡◌, refl, sym, ap, ◌∙◌}
 use mathlib.Core.Logic.{◌≢◌}
@@ -24,22 +24,10 @@ given (Pack r) h = numbered r h
 given Passes h = absurd (omega arith)
 given (Room k) h = absurd (omega arith)
 
--- the tables were cleared, c0 to c4, and are filled, o0 to o4
+-- the tables were cleared, c0 to c4
 module _ (names p : List ℕ) {t0 t1 t2 t3 t4 c0 c1 c2 c3 c4 : List ℕ} (k : Kept c0 c1 c2 c3 c4 t0 t1 t2 t3 t4) where
   same : route names p (lent c0 c1 c2 c3 c4) ≡ route names p (lent t0 t1 t2 t3 t4)
   same = rw (k.mints, k.invocations, k.transfers, k.legs, k.natives)
-
-  -- a success is left as it is
-  pub success : {o0 o1 o2 o3 o4 : List ℕ} {a : Answer} → Filled names p c0 c1 c2 c3 c4 (Ok a) o0 o1 o2 o3 o4 → Leaves names p t0 t1 t2 t3 t4 a o0 o1 o2 o3 o4
-  success f =
-      record {
-        answer = f.answer ∙ ap (λ (x : Routed). x.answer) same;
-        mints = f.mints refl ∙ ap (λ (x : Routed). x.mints) same;
-        invocations = f.invocations refl ∙ ap (λ (x : Routed). x.invocations) same;
-        transfers = f.transfers refl ∙ ap (λ (x : Routed). x.transfers) same;
-        legs = f.legs refl ∙ ap (λ (x : Routed). x.legs) same;
-        natives = f.natives refl ∙ ap (λ (x : Routed). x.natives) same;
-      }
 
   -- a refusal leaves nothing, once the tables are cleared again, w0 to w4
   pub refusal-cleared : {o0 o1 o2 o3 o4 w0 w1 w2 w3 w4 : List ℕ} {e : Refusal} → Filled names p c0 c1 c2 c3 c4 (Err e) o0 o1 o2 o3 o4

@@ -19,9 +19,6 @@ use Rattle.route.specs.Arrays.{own_bits}
 use Rattle.route.specs.Program.{skips, resolved, program_bits}
 use Rattle.route.specs.Row.{invocation_width, flagged, invocation_row}
 
-pub positive : {n : ℕ} → n ≢ 0 → 0 < n
-positive h = omega arith
-
 -- a number that is held one higher
 pub lowered-above : (n : ℕ) → n ≢ 0 → lowered n ≡ some (n - 1)
 unfolding lowered

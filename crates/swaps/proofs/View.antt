@@ -19,10 +19,6 @@ use Rattle.swaps.specs.Swap.{trades, by_program, swap, indexed_pair, indexed, le
 use Rattle.swaps.proofs.Among.{PairWithin, Among}
 use Rattle.swaps.proofs.Places.{among}
 
--- a side of the pair, by its index byte or by its place
-sided : (κ : ℕ → Key) (accounts : List ℕ) (i : ℕ) → i < length accounts → κ (get_or accounts i 0) ≡ account κ accounts i
-sided κ accounts i h = simp (lt-ltb _ _ h)
-
 explicit-input : (κ : ℕ → Key) (accounts : List ℕ) (o : Answer Pair) → PairWithin (length accounts) o
     → explicit κ (option_map (λ (p : Pair). p.input) (indexed_pair accounts o)) ≡ explicit (account κ accounts) (option_map (λ (p : Pair). p.input) o)
 explicit-input κ accounts None w = refl
