@@ -7,7 +7,7 @@ use Prim.Native.Nat.{ℕ, ◌<◌}
 use native.Mathlib.Omega.{arith}
 use borrow.Author.Tests.{eqb-true}
 use lib.Dec.{eqb}
-use lib.ListN.{length, get_or}
+use lib.ListN.{get_or}
 use Rattle.wire.specs.Below.{all_below}
 use Rattle.wire.proofs.Below.{below_at}
 use Rattle.ids.specs.Keys.{Key, zero_key}

@@ -9,7 +9,7 @@ use native.Mathlib.Numerals.{add-one}
 use native.Mathlib.Omega.{arith}
 use borrow.Author.Tests.{eq-eqb, ne_eqb}
 use lib.Dec.{eqb}
-use lib.ListN.{length, get_or, take, drop, length-append, length-replicate}
+use lib.ListN.{length, get_or, take, drop, length-replicate}
 use lib.Seq.{sets, take-suc, take_at}
 use Rattle.wire.specs.Zeros.{zeros}
 use Rattle.wire.specs.Tab.{tab}

@@ -1,11 +1,11 @@
 -- From what `clear` and `fill` leave to what the public call promises of a refusal: whatever is refused is zero. (The check finds that a success is left as it was filled.)
 -- Assumes nothing.
-use mathlib.Core.Path.{◌≡◌, refl, sym, ap, ◌∙◌}
+use mathlib.Core.Path.{◌≡◌, sym, ap, ◌∙◌}
 use mathlib.Core.Logic.{◌≢◌}
 use mathlib.Core.List.{List}
 use Prim.Native.Nat.{ℕ}
 use native.Mathlib.Omega.{arith}
-use Rattle.std.specs.Prelude.{Ok, Err}
+use Rattle.std.specs.Prelude.{Err}
 use Rattle.wire.specs.Zeros.{zeros}
 use Rattle.route.specs.declared.Answer.{Answer}
 use Rattle.route.specs.declared.refusal.Refusal.{Refusal}

@@ -4,9 +4,9 @@ use mathlib.Core.Path.{◌≡◌, refl, sym, ap, ◌∙◌}
 use mathlib.Core.Bool.{false}
 use mathlib.Core.List.{List}
 use mathlib.Core.Option.{Option, none, some}
-use Prim.Native.Nat.{ℕ, ◌<◌}
+use Prim.Native.Nat.{ℕ}
 use borrow.Author.Tests.{lt-ltb}
-use lib.ListN.{length, get_or}
+use lib.ListN.{length}
 use Rattle.ids.specs.Keys.{Key, account}
 use Rattle.ids.specs.Mints.{mint_of}
 use Rattle.ids.specs.declared.Id.{Id}
