@@ -1,8 +1,9 @@
 """Fits the module of a proved library, which the kit made for one target, its base, to another target.
 
-The module's functions stay as they are, word for word. What changes is the lines that name the machine, and how the exported functions are called: each gets
-a skin that is called as the target's C has it and calls the proved one. How that is, the compiler says itself: it reads the C header and writes a declaration
-of each function, once for the base, which has to be what the module has, and once for the target.
+The module's functions stay as they are, word for word, but for one word: where addresses have 32 bits, that by which the address of a pointer is read as a number
+of 64. What changes is the lines that name the machine, and how the exported functions are called: each gets a skin that is called as the target's C has it and
+calls the proved one. How that is, the compiler says itself: it reads the C header and writes a declaration of each function, once for the base, which has to be
+what the module has, and once for the target.
 """
 
 import re
@@ -11,6 +12,8 @@ from collections import namedtuple
 FUNCTION = re.compile(r"^(define|declare) ([^@\n]*) @(\w+)(\(.*)$", re.M)
 STRUCTS = re.compile(r"^%struct\..* = type .*\n", re.M)
 MACHINE = re.compile(r'^target (?:datalayout|triple) = ".*"\n', re.M)
+# Reads an address as a number of the width that addresses have. `ptrtoint` reads it as one of any width: the same number, with zeros in front.
+ADDRESS = re.compile(r"\bptrtoaddr (?=ptr .* to i64$)", re.M)
 PROCESSOR = re.compile(r' "(?:target-cpu|tune-cpu|target-features)"="[^"]*"')
 
 # Where a skin keeps an answer that the two sides have in different places. No target's C has more bytes of an answer in registers.
@@ -120,4 +123,6 @@ def fit(module, here, there):
     # Else the fields of a struct may lie at other places.
     if "-i64:64-" not in "".join(machine):
         raise Unfit("the target has numbers of 64 bits at other places than multiples of 8")
+    if "-p:32:32-" in "".join(machine):
+        module = ADDRESS.sub("ptrtoint ", module)
     return "".join([*machine, PROCESSOR.sub("", MACHINE.sub("", module)), *structs, *skins])
