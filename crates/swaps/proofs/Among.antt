@@ -5,7 +5,6 @@ use mathlib.Core.Bool.{Bool, true, false, cond}
 use Prim.Native.Nat.{ℕ, ◌<◌}
 use native.Mathlib.Omega.{arith}
 use Rattle.std.specs.Prelude.{Option, Some, None}
-use Rattle.swaps.specs.declared.Protocol.{Protocol}
 use Rattle.swaps.specs.declared.Pair.{Pair}
 use Rattle.swaps.specs.declared.Swap.{Swap}
 use Rattle.swaps.specs.Data.{when}
@@ -41,7 +40,7 @@ module _ (n : ℕ) where
   three true u v s h = two u v s (λ e. h refl)
 
   -- input and output, and the pair, each in either order
-  pub crossed : (t b exact : Bool) (protocol : Protocol) (pool trader i o p q x y : ℕ) → (pool < n) × (trader < n) × (i < n) × (o < n) × (p < n) × (q < n)
+  pub crossed : (t b exact : Bool) (protocol pool trader i o p q x y : ℕ) → (pool < n) × (trader < n) × (i < n) × (o < n) × (p < n) × (q < n)
       → Within n (pair_by t p q (bare_swap protocol pool trader (cond b i o) (cond b o i) exact x y))
   crossed true true exact protocol pool trader i o p q x y h = omega arith
   crossed true false exact protocol pool trader i o p q x y h = omega arith
@@ -57,7 +56,7 @@ module _ (n : ℕ) where
   forms true false false f h = tt
 
   -- a leg that names no direction
-  pub straight : (u exact : Bool) (protocol : Protocol) (pool trader i o x y : ℕ) → (pool < n) × (trader < n) × (i < n) × (o < n)
+  pub straight : (u exact : Bool) (protocol pool trader i o x y : ℕ) → (pool < n) × (trader < n) × (i < n) × (o < n)
       → Among n (when u (Some (stated protocol pool trader i o exact x y)))
   straight true exact protocol pool trader i o x y h = omega arith
   straight false exact protocol pool trader i o x y h = tt

@@ -17,7 +17,6 @@ use Rattle.ids.specs.declared.Id.{Id}
 use Rattle.ids.specs.declared.Id.TheVariants.{SplToken, Token2022, WrappedSol, ComputeBudget, AssociatedToken, Memo, PumpFun, LaunchLab, PumpSwap, Clmm, Cpmm, AmmV4, Orca, Dlmm, System, Other, Unresolved}
 use Rattle.std.specs.Prelude.{Option, Some}
 use Rattle.swaps.specs.declared.Swap.{Swap}
-use Rattle.swaps.specs.declared.Protocol.TheVariants as protocol
 use Rattle.swaps.specs.declared.pumpfun.Places.{Places}
 use Rattle.swaps.specs.Discriminators.{SWAP, SWAP_V2, SWAP2, SWAP_EXACT_OUT, SWAP_EXACT_OUT2, BUY_EXACT_IN, SELL_EXACT_IN, BUY_EXACT_OUT, SELL_EXACT_OUT, BUY_V2, SELL_V2, BUY_EXACT_QUOTE_IN, BUY_EXACT_QUOTE_IN_V2, SELL}
 use Rattle.swaps.specs.Data.{is, is_flag, flag, when}
@@ -50,7 +49,7 @@ module _ (n : ℕ) where
   unfolding orca_v1 orca_v2
   orca-within a true direction exact x y e =
       let h = leb-true 15 n e in
-      crossed n (same (a (cond direction 7 9)) (a 7)) direction exact protocol.Orca 4 3 7 9 5 6 x y (omega arith)
+      crossed n (same (a (cond direction 7 9)) (a 7)) direction exact 6 4 3 7 9 5 6 x y (omega arith)
   orca-within a false true exact x y e = let h = leb-true 11 n e in omega arith
   orca-within a false false exact x y e = let h = leb-true 11 n e in omega arith
 
@@ -64,7 +63,7 @@ module _ (n : ℕ) where
   cpmm-leg : (d : List ℕ) (exact : Bool) → 13 ≤ n → Among n (cpmm_leg d exact)
   cpmm-leg d exact h = go (leb 24 (length d))
     where
-      go : (u : Bool) → Among n (when u (Some (pairing (stated protocol.Cpmm 3 0 4 5 exact (le 8 d 8) (le 8 d 16)) 10 11)))
+      go : (u : Bool) → Among n (when u (Some (pairing (stated 3 3 0 4 5 exact (le 8 d 8) (le 8 d 16)) 10 11)))
       go true = omega arith
       go false = tt
 
@@ -83,7 +82,7 @@ module _ (n : ℕ) where
   dlmm-among d =
       forms n (swap_layout n d) (is d SWAP || is d SWAP2) (is d SWAP_EXACT_OUT || is d SWAP_EXACT_OUT2) (dlmm_leg d) (λ e exact.
       let h = floored (is d SWAP || is d SWAP_EXACT_OUT) (is d SWAP2 || is d SWAP_EXACT_OUT2) (leb 24 (length d)) (slices_fit n d) e in
-      straight n (leb 24 (length d)) exact protocol.Dlmm 0 10 4 5 (le 8 d 8) (le 8 d 16) (omega arith))
+      straight n (leb 24 (length d)) exact 7 0 10 4 5 (le 8 d 8) (le 8 d 16) (omega arith))
 
   launchlab-forms : (t p q r s : Bool) (f : Bool → Bool → Option Swap) → (t ≡ true → (buy exact : Bool) → Among n (f buy exact))
       → Among n (when t (cond p (f true true) (cond q (f false true) (cond r (f true false) (when s (f false false))))))
@@ -98,12 +97,12 @@ module _ (n : ℕ) where
   unfolding launch_lab_leg
   launchlab-leg names a d buy exact h = go (leb 24 (length d))
     where
-      s : Within n (pair_by (same (a (cond buy 6 5)) (a 6)) 10 9 (bare_swap protocol.LaunchLab 4 0 (cond buy 6 5) (cond buy 5 6) exact (le 8 d 8) (le 8 d 16)))
-      s = crossed n (same (a (cond buy 6 5)) (a 6)) buy exact protocol.LaunchLab 4 0 6 5 10 9 (le 8 d 8) (le 8 d 16) (omega arith)
+      s : Within n (pair_by (same (a (cond buy 6 5)) (a 6)) 10 9 (bare_swap 2 4 0 (cond buy 6 5) (cond buy 5 6) exact (le 8 d 8) (le 8 d 16)))
+      s = crossed n (same (a (cond buy 6 5)) (a 6)) buy exact 2 4 0 6 5 10 9 (le 8 d 8) (le 8 d 16) (omega arith)
 
       go : (u : Bool)
           → Among n (when u (Some (in_mode (mode_of names (a 3))
-          (pair_by (same (a (cond buy 6 5)) (a 6)) 10 9 (bare_swap protocol.LaunchLab 4 0 (cond buy 6 5) (cond buy 5 6) exact (le 8 d 8) (le 8 d 16))))))
+          (pair_by (same (a (cond buy 6 5)) (a 6)) 10 9 (bare_swap 2 4 0 (cond buy 6 5) (cond buy 5 6) exact (le 8 d 8) (le 8 d 16))))))
       go true = record { pool = s.pool; trader = s.trader; input = s.input; output = s.output; pair = s.pair }
       go false = tt
 
@@ -118,7 +117,7 @@ module _ (n : ℕ) where
   unfolding pump_fun_leg
   pumpfun-leg p wrapped buy exact x y h =
       let money : cond wrapped p.user p.quote < n = go wrapped in
-      crossed n buy buy exact protocol.PumpFun p.pool p.user (cond wrapped p.user p.quote) p.base 2 1 x y (h.0, h.1, money, h.2, omega arith, omega arith)
+      crossed n buy buy exact 8 p.pool p.user (cond wrapped p.user p.quote) p.base 2 1 x y (h.0, h.1, money, h.2, omega arith, omega arith)
     where
       go : (w : Bool) → cond w p.user p.quote < n
       go true = h.1
@@ -156,8 +155,8 @@ module _ (n : ℕ) where
   unfolding pump_swap_leg
   pumpswap-leg a d buy exact h =
       two n (track_volume d buy) (leb 24 (length d))
-      (pair_by (same (a (cond buy 6 5)) (a 6)) 4 3 (bare_swap protocol.PumpSwap 0 1 (cond buy 6 5) (cond buy 5 6) exact (le 8 d 8) (le 8 d 16)))
-      (λ e. crossed n (same (a (cond buy 6 5)) (a 6)) buy exact protocol.PumpSwap 0 1 6 5 4 3 (le 8 d 8) (le 8 d 16) (omega arith))
+      (pair_by (same (a (cond buy 6 5)) (a 6)) 4 3 (bare_swap 1 0 1 (cond buy 6 5) (cond buy 5 6) exact (le 8 d 8) (le 8 d 16)))
+      (λ e. crossed n (same (a (cond buy 6 5)) (a 6)) buy exact 1 0 1 6 5 4 3 (le 8 d 8) (le 8 d 16) (omega arith))
 
   -- 21 up, or 17
   seventeen : (t u : Bool) → leb 21 n ≡ t → eqb n 17 ≡ u → (t || u) ≡ true → 17 ≤ n
@@ -182,12 +181,12 @@ module _ (n : ℕ) where
   amm-forms false p false r x y f g = tt
 
   amm-long : (tag : ℕ) (d : List ℕ) (t : Bool) → eqb n 17 ≡ t → 17 ≤ n
-      → Among n (when (leb 17 (length d)) (Some (stated protocol.AmmV4 1 (17 - cond t 1 0) (15 - cond t 1 0) (16 - cond t 1 0) (eqb tag 9) (le 8 d 1) (le 8 d 9))))
-  amm-long tag d true e h = straight n (leb 17 (length d)) (eqb tag 9) protocol.AmmV4 1 16 14 15 (le 8 d 1) (le 8 d 9) (omega arith)
+      → Among n (when (leb 17 (length d)) (Some (stated 4 1 (17 - cond t 1 0) (15 - cond t 1 0) (16 - cond t 1 0) (eqb tag 9) (le 8 d 1) (le 8 d 9))))
+  amm-long tag d true e h = straight n (leb 17 (length d)) (eqb tag 9) 4 1 16 14 15 (le 8 d 1) (le 8 d 9) (omega arith)
   amm-long tag d false e h =
       let f = eqb-false n 17 e in
       let k : 17 < n = omega arith in
-      straight n (leb 17 (length d)) (eqb tag 9) protocol.AmmV4 1 17 15 16 (le 8 d 1) (le 8 d 9) (omega arith)
+      straight n (leb 17 (length d)) (eqb tag 9) 4 1 17 15 16 (le 8 d 1) (le 8 d 9) (omega arith)
 
   amm-among : (d : List ℕ) → Among n (amm_v4 n d)
   unfolding amm_v4
@@ -196,7 +195,7 @@ module _ (n : ℕ) where
       amm-forms (eqb tag 16 || eqb tag 17) (leb 8 n) (eqb tag 9 || eqb tag 11) (leb 17 n) (amm_v4_short tag d) (amm_v4_long tag n d)
       (λ e.
       let h = leb-true 8 n (and_right (eqb tag 16 || eqb tag 17) (leb 8 n) e) in
-      straight n (leb 17 (length d)) (eqb tag 16) protocol.AmmV4 1 7 5 6 (le 8 d 1) (le 8 d 9) (omega arith))
+      straight n (leb 17 (length d)) (eqb tag 16) 4 1 7 5 6 (le 8 d 1) (le 8 d 9) (omega arith))
       (λ e. amm-long tag d (eqb n 17) refl (leb-true 17 n (and_right (eqb tag 9 || eqb tag 11) (leb 17 n) e)))
 
   -- whichever the program

@@ -6,6 +6,7 @@ use mathlib.Core.List.{List, [], ◌∷◌, ◌++◌}
 use mathlib.Core.Option.{Option, none, some, none-ne-some, some-injective}
 use Prim.Native.Nat.{ℕ, suc}
 use Rattle.std.specs.Prelude.{Option as Answer, Some, None, option_map}
+use lib.Dec.{eqb}
 use lib.ListN.{length, set, length-append}
 use lib.Seq.{sets}
 use Rattle.wire.specs.Le.{le_bytes}
@@ -19,9 +20,9 @@ use Rattle.ids.specs.Mints.{is_mint, mint_of, mint_field}
 use Rattle.ids.proofs.Keys.{key-length, account-length, mint-length}
 use Rattle.swaps.specs.declared.Pair.{Pair}
 use Rattle.swaps.specs.declared.Swap.{Swap}
-use Rattle.swaps.specs.Leg.{RouteLeg, contains, explicit, or_else, leg_with, is_cpmm, valued}
+use Rattle.swaps.specs.Leg.{RouteLeg, contains, explicit, or_else, leg_with, valued}
 use Rattle.swaps.specs.Swap.{by_program, swap}
-use Rattle.swaps.specs.Row.{leg_width, protocol_number, key_bytes, end_bytes, leg_row, side}
+use Rattle.swaps.specs.Row.{leg_width, key_bytes, end_bytes, leg_row, side}
 
 -- a key that is not zero is a mint, and the zero key is none
 is_key : (key : Key) → is_zero key ≡ false → length key ≡ 32 → is_mint key ≡ true
@@ -114,20 +115,20 @@ pub row_in : (l : List ℕ) (i : ℕ) (ks : List ℕ) (program : ℕ) (spent bou
     → sets
     (sets
     (sets
-    (sets (set (sets l 0 (le_bytes 4 i)) 4 (protocol_number s.protocol)) 5
+    (sets (set (sets l 0 (le_bytes 4 i)) 4 s.protocol) 5
     (key_bytes (key_of ks program) (key_of ks s.pool) (key_of ks s.trader) (key_of ks s.input) (key_of ks s.output)))
     165 (mint_field (or_else (mint_of spent) (explicit (key_of ks) (inputs s)))))
     198 (mint_field (or_else (mint_of bought) (explicit (key_of ks) (outputs s)))))
-    231 (end_bytes s.exact s.amount s.threshold s.mode (is_cpmm s.protocol && contains pools (key_of ks s.pool)))
+    231 (end_bytes s.exact s.amount s.threshold s.mode (eqb s.protocol 3 && contains pools (key_of ks s.pool)))
     ≡ leg_row i (key_of ks program) (leg_with (key_of ks) (mint_of spent) (mint_of bought) pools s)
 unfolding leg_row
 row_in l i ks program spent bought pools s h =
     let k = key-length ks in
-    fields_in l i (protocol_number s.protocol)
+    fields_in l i s.protocol
     (key_bytes (key_of ks program) (key_of ks s.pool) (key_of ks s.trader) (key_of ks s.input) (key_of ks s.output))
     (mint_field (or_else (mint_of spent) (explicit (key_of ks) (inputs s))))
     (mint_field (or_else (mint_of bought) (explicit (key_of ks) (outputs s))))
-    (end_bytes s.exact s.amount s.threshold s.mode (is_cpmm s.protocol && contains pools (key_of ks s.pool)))
+    (end_bytes s.exact s.amount s.threshold s.mode (eqb s.protocol 3 && contains pools (key_of ks s.pool)))
     (keys_length (key_of ks program) (key_of ks s.pool) (key_of ks s.trader) (key_of ks s.input) (key_of ks s.output)
     (k program) (k s.pool) (k s.trader) (k s.input) (k s.output))
     (side-length (mint_of spent) (key_of ks) (inputs s) (mint-length spent) k)

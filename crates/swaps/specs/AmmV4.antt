@@ -2,13 +2,12 @@
 -- Assumes nothing.
 use Rattle.std.specs.Prelude.{ℕ, ◌-◌, Bool, cond, ◌&&◌, ◌||◌, List, leb, eqb, get_or, Option, Some}
 use Rattle.swaps.specs.declared.Swap.{Swap}
-use Rattle.swaps.specs.declared.Protocol.TheVariants.{AmmV4}
 use Rattle.swaps.specs.Data.{when, both}
 use Rattle.swaps.specs.Draft.{stated}
 
 -- the leg of `Some(16 | 17)`
 abbrev pub short_leg : List ℕ → Bool → Option Swap
-short_leg d exact = both d 1 (λ first second. Some (stated AmmV4 1 7 5 6 exact first second))
+short_leg d exact = both d 1 (λ first second. Some (stated 4 1 7 5 6 exact first second))
 
 -- the branch for it
 abbrev pub amm_v4_short : ℕ → List ℕ → Option Swap
@@ -18,7 +17,7 @@ amm_v4_short tag d = short_leg d (eqb tag 16)
 abbrev pub long_leg : ℕ → List ℕ → Bool → Option Swap
 long_leg n d exact =
     let shift : ℕ = cond (eqb n 17) 1 0 in
-    both d 1 (λ first second. Some (stated AmmV4 1 (17 - shift) (15 - shift) (16 - shift) exact first second))
+    both d 1 (λ first second. Some (stated 4 1 (17 - shift) (15 - shift) (16 - shift) exact first second))
 
 -- the branch for it
 abbrev pub amm_v4_long : ℕ → ℕ → List ℕ → Option Swap

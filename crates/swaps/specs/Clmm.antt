@@ -2,7 +2,6 @@
 -- Assumes nothing.
 use Rattle.std.specs.Prelude.{ℕ, Bool, cond, ◌&&◌, ◌||◌, List, leb, Option, Some}
 use Rattle.swaps.specs.declared.Swap.{Swap}
-use Rattle.swaps.specs.declared.Protocol.TheVariants.{Clmm}
 use Rattle.swaps.specs.Discriminators.{SWAP, SWAP_V2}
 use Rattle.swaps.specs.Data.{is, is_flag, flag, when, both}
 use Rattle.swaps.specs.Draft.{bare_swap, pairing}
@@ -18,7 +17,7 @@ clmm_form n d = when (clmm_takes n d) (Some (is d SWAP_V2))
 -- its leg; only `swap_v2` has an `explicit_pair`
 abbrev pub clmm_leg : Bool → Bool → ℕ → ℕ → Swap
 clmm_leg v2 exact amount threshold =
-    let s = bare_swap Clmm 2 0 3 4 exact amount threshold in
+    let s = bare_swap 5 2 0 3 4 exact amount threshold in
     cond v2 (pairing s 11 12) s
 
 -- `swap` for RAYDIUM_CLMM_PROGRAM_ID: n accounts, data d

@@ -3,7 +3,6 @@
 use Rattle.std.specs.Prelude.{ℕ, zero, suc, ◌+◌, ◌-◌, ◌/◌, Bool, true, false, cond, ◌&&◌, ◌||◌, List, leb, ltb, eqb, length, get_or, is_some, unwrap_or, Option, Some, None}
 use Rattle.wire.specs.Le.{le}
 use Rattle.swaps.specs.declared.Swap.{Swap}
-use Rattle.swaps.specs.declared.Protocol.TheVariants.{Dlmm}
 use Rattle.swaps.specs.declared.dlmm.Slice.{Slice}
 use Rattle.swaps.specs.Discriminators.{SWAP, SWAP2, SWAP_EXACT_OUT, SWAP_EXACT_OUT2}
 use Rattle.swaps.specs.Data.{is, when, both}
@@ -48,7 +47,7 @@ swap_layout n d =
 
 -- its leg, `first` and `second` exchanged where it is not `exact_in`
 abbrev pub dlmm_leg : List ℕ → Bool → Option Swap
-dlmm_leg d exact = both d 8 (λ first second. Some (stated Dlmm 0 10 4 5 exact first second))
+dlmm_leg d exact = both d 8 (λ first second. Some (stated 7 0 10 4 5 exact first second))
 
 -- `swap` for METEORA_DLMM_PROGRAM_ID: n accounts, data d
 unfoldable pub dlmm : ℕ → List ℕ → Option Swap

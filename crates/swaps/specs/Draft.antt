@@ -1,13 +1,11 @@
 -- The numbers of a leg, as a protocol's function makes them. Accounts are places among the instruction's accounts: 2 is the original's `a(2)`.
 -- Assumes nothing.
-use Rattle.std.specs.Prelude.{ℕ, Bool, cond, Option, Some, None}
-use Rattle.swaps.specs.declared.Protocol.{Protocol}
-use Rattle.swaps.specs.declared.Mode.{Mode}
+use Rattle.std.specs.Prelude.{ℕ, Bool, cond, Some, None}
 use Rattle.swaps.specs.declared.Pair.{Pair}
 use Rattle.swaps.specs.declared.Swap.{Swap}
 
 -- `(protocol, pool, trader, input, output, exact_in, amount, threshold)`, with no `explicit_pair` and no `mode`
-abbrev pub bare_swap : Protocol → ℕ → ℕ → ℕ → ℕ → Bool → ℕ → ℕ → Swap
+abbrev pub bare_swap : ℕ → ℕ → ℕ → ℕ → ℕ → Bool → ℕ → ℕ → Swap
 bare_swap protocol pool trader input output exact amount threshold =
     record {
       protocol = protocol;
@@ -18,12 +16,12 @@ bare_swap protocol pool trader input output exact amount threshold =
       exact = exact;
       amount = amount;
       threshold = threshold;
-      mode = None;
+      mode = 0;
       pair = None;
     }
 
 -- the same where the data's `first` and `second` are amount and threshold when it is `exact_in`, and threshold and amount when not
-abbrev pub stated : Protocol → ℕ → ℕ → ℕ → ℕ → Bool → ℕ → ℕ → Swap
+abbrev pub stated : ℕ → ℕ → ℕ → ℕ → ℕ → Bool → ℕ → ℕ → Swap
 stated protocol pool trader input output exact first second =
     bare_swap protocol pool trader input output exact (cond exact first second) (cond exact second first)
 
@@ -36,7 +34,7 @@ abbrev pub pair_by : Bool → ℕ → ℕ → Swap → Swap
 pair_by test x y s = pairing s (cond test x y) (cond test y x)
 
 -- with `mode` m
-abbrev pub in_mode : Option Mode → Swap → Swap
+abbrev pub in_mode : ℕ → Swap → Swap
 in_mode m s = record s { mode = m }
 
 -- (x, y) if the test holds, else (y, x)

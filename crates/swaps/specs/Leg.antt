@@ -1,20 +1,17 @@
 -- A leg as a value: the original's `RouteSwapLeg`, but for its position and its program.
 -- An `Option` of these is the original's; the code's own is called `Answer` here.
 -- Assumes nothing.
-use Rattle.std.specs.Prelude.{ℕ, Bool, true, false, cond, ◌&&◌, ◌||◌, List, [], ◌∷◌, Option as Answer, option_map, Some, None}
+use Rattle.std.specs.Prelude.{ℕ, Bool, false, cond, ◌&&◌, ◌||◌, List, [], ◌∷◌, Option as Answer, option_map, Some, None, eqb}
 use Rattle.std.proofs.Math.Option.{Option, none, some}
 use Rattle.wire.specs.Same.{same}
 use Rattle.ids.specs.Keys.{Key, is_zero}
-use Rattle.swaps.specs.declared.Protocol.{Protocol}
-use Rattle.swaps.specs.declared.Protocol.TheVariants.{Cpmm}
-use Rattle.swaps.specs.declared.Mode.{Mode}
 use Rattle.swaps.specs.declared.Pair.{Pair}
 use Rattle.swaps.specs.declared.Swap.{Swap}
 
 -- `exact` is `amount_specified_is_input`, `amount` and `threshold` are `specified_amount` and `other_amount_threshold`,
 -- `mode` is `stonkfun_mode`
 pub record RouteLeg : Type 0 where
-  pub protocol : Protocol
+  pub protocol : ℕ
   pub pool : Key
   pub trader : Key
   pub input : Key
@@ -24,7 +21,7 @@ pub record RouteLeg : Type 0 where
   pub exact : Bool
   pub amount : ℕ
   pub threshold : ℕ
-  pub mode : Answer Mode
+  pub mode : ℕ
   pub graduated : Bool
 
 -- a key that is not zero: `.filter(|mint| *mint != Pubkey::default())`
@@ -46,11 +43,6 @@ unfoldable pub contains : List Key → Key → Bool
 contains [] k = false
 contains (p ∷ ps) k = same p k || contains ps k
 
--- only a CPMM pool is graduated
-abbrev pub is_cpmm : Protocol → Bool
-is_cpmm Cpmm = true
-is_cpmm p = false
-
 -- the `RouteSwapLeg` at the end of `swap`: κ gives the key of each account; then the mints known of the input and of the output, and the graduated pools
 abbrev pub leg_with : (ℕ → Key) → Option Key → Option Key → List Key → Swap → RouteLeg
 leg_with κ known_in known_out pools s =
@@ -66,7 +58,7 @@ leg_with κ known_in known_out pools s =
       amount = s.amount;
       threshold = s.threshold;
       mode = s.mode;
-      graduated = is_cpmm s.protocol && contains pools (κ s.pool);
+      graduated = eqb s.protocol 3 && contains pools (κ s.pool);
     }
 
 -- the same with `mints.get(&input)` and `mints.get(&output)`, which μ answers

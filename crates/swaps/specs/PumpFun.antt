@@ -5,7 +5,6 @@ use Rattle.ids.specs.Keys.{Key}
 use Rattle.ids.specs.Ids.{is_wrapped_sol}
 use Rattle.swaps.specs.declared.Swap.{Swap}
 use Rattle.swaps.specs.declared.pumpfun.Places.{Places}
-use Rattle.swaps.specs.declared.Protocol.TheVariants.{PumpFun}
 use Rattle.swaps.specs.declared.pumpfun.Form.{Form}
 use Rattle.swaps.specs.Discriminators.{BUY_V2, BUY_EXACT_QUOTE_IN_V2, SELL_V2, BUY_V3, BUY_EXACT_QUOTE_IN_V3, SELL_V3}
 use Rattle.swaps.specs.Data.{is, when, both}
@@ -47,7 +46,7 @@ pump_fun_places v2 = cond v2 (record { pool = 10; user = 13; base = 14; quote = 
 abbrev pub pump_fun_leg : Places → Bool → Bool → Bool → ℕ → ℕ → Swap
 pump_fun_leg p wrapped buy exact amount threshold =
     let money = cond wrapped p.user p.quote in
-    pair_by buy 2 1 (bare_swap PumpFun p.pool p.user (cond buy money p.base) (cond buy p.base money) exact amount threshold)
+    pair_by buy 2 1 (bare_swap 8 p.pool p.user (cond buy money p.base) (cond buy p.base money) exact amount threshold)
 
 -- `swap` for PUMPFUN_PROGRAM_ID: n accounts, a their keys, data d
 unfoldable pub pump_fun : (ℕ → Key) → ℕ → List ℕ → Option Swap

@@ -5,7 +5,6 @@ use Rattle.wire.specs.Le.{le}
 use Rattle.wire.specs.Same.{same}
 use Rattle.ids.specs.Keys.{Key}
 use Rattle.swaps.specs.declared.Swap.{Swap}
-use Rattle.swaps.specs.declared.Protocol.TheVariants.{PumpSwap}
 use Rattle.swaps.specs.declared.draft.Form.{Form}
 use Rattle.swaps.specs.Discriminators.{BUY_EXACT_QUOTE_IN, BUY_EXACT_QUOTE_IN_V2, BUY_V2, SELL, SELL_V2}
 use Rattle.swaps.specs.Data.{is, is_flag, when, both}
@@ -31,7 +30,7 @@ abbrev pub pump_swap_leg : (ℕ → Key) → List ℕ → Bool → Bool → Opti
 pump_swap_leg a d buy exact =
     let input : ℕ = cond buy 6 5 in
     when (track_volume d buy)
-    (both d 8 (λ amount threshold. Some (pair_by (same (a input) (a 6)) 4 3 (bare_swap PumpSwap 0 1 input (cond buy 5 6) exact amount threshold))))
+    (both d 8 (λ amount threshold. Some (pair_by (same (a input) (a 6)) 4 3 (bare_swap 1 0 1 input (cond buy 5 6) exact amount threshold))))
 
 -- `swap` for PUMPSWAP_PROGRAM_ID: n accounts, a their keys, data d; BUY that is `BUY_EXACT_QUOTE_IN` is exact-in, BUY that is `SELL` a buy
 unfoldable pub pump_swap : List ℕ → (ℕ → Key) → ℕ → List ℕ → Option Swap

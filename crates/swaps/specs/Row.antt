@@ -1,13 +1,9 @@
 -- A row of table 3, field by field as docs/FORMAT.md lists them.
 -- Assumes nothing.
-use Rattle.std.specs.Prelude.{ℕ, Bool, cond, List, [], ◌∷◌, ◌++◌, Option as Answer, unwrap_or, Some, None}
+use Rattle.std.specs.Prelude.{ℕ, Bool, cond, List, [], ◌∷◌, ◌++◌, Option as Answer, unwrap_or}
 use Rattle.wire.specs.Le.{le_bytes}
 use Rattle.ids.specs.Keys.{Key, zero_key}
 use Rattle.ids.specs.Mints.{is_mint, mint_field}
-use Rattle.swaps.specs.declared.Protocol.{Protocol}
-use Rattle.swaps.specs.declared.Protocol.TheVariants.{PumpSwap, LaunchLab, Cpmm, AmmV4, Clmm, Orca, Dlmm, PumpFun}
-use Rattle.swaps.specs.declared.Mode.{Mode}
-use Rattle.swaps.specs.declared.Mode.TheVariants.{Standard, Reward}
 use Rattle.swaps.specs.Leg.{RouteLeg}
 
 -- the bytes of a row
@@ -18,26 +14,9 @@ leg_width = 250
 abbrev pub bit : Bool → ℕ
 bit b = cond b 1 0
 
--- the number of a protocol, in the order of `SwapProtocol`
-abbrev pub protocol_number : Protocol → ℕ
-protocol_number PumpSwap = 1
-protocol_number LaunchLab = 2
-protocol_number Cpmm = 3
-protocol_number AmmV4 = 4
-protocol_number Clmm = 5
-protocol_number Orca = 6
-protocol_number Dlmm = 7
-protocol_number PumpFun = 8
-
--- the number of a mode, 0 for none
-abbrev pub mode_number : Answer Mode → ℕ
-mode_number None = 0
-mode_number (Some Standard) = 1
-mode_number (Some Reward) = 2
-
 -- exact-in, amount, threshold, mode, graduated
-unfoldable pub end_bytes : Bool → ℕ → ℕ → Answer Mode → Bool → List ℕ
-end_bytes exact amount threshold mode graduated = (bit exact ∷ []) ++ le_bytes 8 amount ++ le_bytes 8 threshold ++ (mode_number mode ∷ []) ++ (bit graduated ∷ [])
+unfoldable pub end_bytes : Bool → ℕ → ℕ → ℕ → Bool → List ℕ
+end_bytes exact amount threshold mode graduated = (bit exact ∷ []) ++ le_bytes 8 amount ++ le_bytes 8 threshold ++ (mode ∷ []) ++ (bit graduated ∷ [])
 
 -- program, pool, trader, input, output
 unfoldable pub key_bytes : Key → Key → Key → Key → Key → List ℕ
@@ -46,7 +25,7 @@ key_bytes program pool trader input output = program ++ pool ++ trader ++ input 
 -- invocation, protocol, the five keys, the mints of the input and of the output, and the rest
 unfoldable pub leg_row : ℕ → Key → RouteLeg → List ℕ
 leg_row invocation program l =
-    le_bytes 4 invocation ++ (protocol_number l.protocol ∷ []) ++ key_bytes program l.pool l.trader l.input l.output
+    le_bytes 4 invocation ++ (l.protocol ∷ []) ++ key_bytes program l.pool l.trader l.input l.output
     ++ mint_field l.input_mint ++ mint_field l.output_mint
     ++ end_bytes l.exact l.amount l.threshold l.mode l.graduated
 

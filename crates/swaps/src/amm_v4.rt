@@ -3,7 +3,7 @@ ghost use Rattle.std.specs.Prelude.{◌≡◌, length};
 ghost use Rattle.swaps.specs.AmmV4.{amm_v4, short_leg, long_leg};
 
 use crate::instruction::Instruction;
-use crate::{Protocol, Swap};
+use crate::{Swap, protocol};
 
 // Tags 16 and 17.
 fn short(i: &Instruction, exact: bool) -> Option<Swap>
@@ -11,7 +11,7 @@ fn short(i: &Instruction, exact: bool) -> Option<Swap>
 {
     let (amount, threshold) = i.stated(1, exact)?;
     Some(Swap {
-        protocol: Protocol::AmmV4,
+        protocol: protocol::AMM_V4,
         pool: 1,
         trader: 7,
         input: 5,
@@ -19,7 +19,7 @@ fn short(i: &Instruction, exact: bool) -> Option<Swap>
         exact,
         amount,
         threshold,
-        mode: None,
+        mode: 0,
         pair: None,
     })
 }
@@ -31,7 +31,7 @@ fn long(i: &Instruction, exact: bool) -> Option<Swap>
     let (amount, threshold) = i.stated(1, exact)?;
     let shift = u8::from(i.accounts.len() == 17);
     Some(Swap {
-        protocol: Protocol::AmmV4,
+        protocol: protocol::AMM_V4,
         pool: 1,
         trader: 17 - shift,
         input: 15 - shift,
@@ -39,7 +39,7 @@ fn long(i: &Instruction, exact: bool) -> Option<Swap>
         exact,
         amount,
         threshold,
-        mode: None,
+        mode: 0,
         pair: None,
     })
 }

@@ -4,7 +4,7 @@ ghost use Rattle.swaps.specs.Clmm.{clmm, clmm_form};
 
 use crate::discriminators::{SWAP, SWAP_V2};
 use crate::instruction::Instruction;
-use crate::{Pair, Protocol, Swap};
+use crate::{Pair, Swap, protocol};
 
 // `swap` with 10 accounts, or `swap_v2` with 13: whether it is `swap_v2`.
 #[tactic(auto, unfolding(crate::specs::Data::is))]
@@ -28,7 +28,7 @@ pub fn leg(i: &Instruction) -> Option<Swap>
     let exact = i.flag(40)?;
     let (amount, threshold) = i.numbers(8)?;
     Some(Swap {
-        protocol: Protocol::Clmm,
+        protocol: protocol::CLMM,
         pool: 2,
         trader: 0,
         input: 3,
@@ -36,7 +36,7 @@ pub fn leg(i: &Instruction) -> Option<Swap>
         exact,
         amount,
         threshold,
-        mode: None,
+        mode: 0,
         pair: v2.then_some(Pair {
             input: 11,
             output: 12,

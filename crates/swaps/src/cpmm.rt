@@ -3,7 +3,7 @@ ghost use Rattle.std.specs.Prelude.{◌≡◌, length};
 ghost use Rattle.swaps.specs.Cpmm.{cpmm, cpmm_form};
 
 use crate::instruction::Instruction;
-use crate::{Pair, Protocol, Swap};
+use crate::{Pair, Swap, protocol};
 
 // Whether it is exact-in.
 #[tactic(auto, unfolding(crate::specs::Data::is))]
@@ -30,7 +30,7 @@ pub fn leg(names: &[u8], i: &Instruction) -> Option<Swap>
     let exact = is_exact(names, i)?;
     let (amount, threshold) = i.stated(8, exact)?;
     Some(Swap {
-        protocol: Protocol::Cpmm,
+        protocol: protocol::CPMM,
         pool: 3,
         trader: 0,
         input: 4,
@@ -38,7 +38,7 @@ pub fn leg(names: &[u8], i: &Instruction) -> Option<Swap>
         exact,
         amount,
         threshold,
-        mode: None,
+        mode: 0,
         pair: Some(Pair {
             input: 10,
             output: 11,

@@ -5,7 +5,7 @@ ghost use Rattle.swaps.specs.Dlmm.{tag_size, slice_at, slices as slices_of, slic
 
 use crate::discriminators::{SWAP, SWAP_EXACT_OUT, SWAP_EXACT_OUT2, SWAP2};
 use crate::instruction::Instruction;
-use crate::{Protocol, Swap};
+use crate::{Swap, protocol};
 
 // The bytes of a slice's tag.
 fn tag_size(tag: u8) -> Option<usize>
@@ -96,7 +96,7 @@ pub fn leg(i: &Instruction) -> Option<Swap>
     let exact = matches!(found, SWAP | SWAP2);
     let (amount, threshold) = i.stated(8, exact)?;
     Some(Swap {
-        protocol: Protocol::Dlmm,
+        protocol: protocol::DLMM,
         pool: 0,
         trader: 10,
         input: 4,
@@ -104,7 +104,7 @@ pub fn leg(i: &Instruction) -> Option<Swap>
         exact,
         amount,
         threshold,
-        mode: None,
+        mode: 0,
         pair: None,
     })
 }

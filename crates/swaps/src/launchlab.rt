@@ -6,7 +6,7 @@ ghost use Rattle.swaps.specs.LaunchLab.{mode_of, launch_lab, launch_lab_form};
 use crate::discriminators::{BUY_EXACT_IN, BUY_EXACT_OUT, SELL_EXACT_IN, SELL_EXACT_OUT};
 use crate::draft::{Form, in_order, pair_of};
 use crate::instruction::Instruction;
-use crate::{Mode, Protocol, Swap};
+use crate::{Swap, protocol};
 
 #[tactic(auto, unfolding(crate::specs::Data::is))]
 fn form_of(i: &Instruction) -> Option<Form>
@@ -31,16 +31,16 @@ fn config(names: &[u8], at: usize) -> &[u8]
 }
 
 // The mode that a platform config stands for.
-fn mode_of(names: &[u8], key: &[u8]) -> Option<Mode>
+fn mode_of(names: &[u8], key: &[u8]) -> u8
     ensures { result ≡ mode_of names.now key.now }
 {
     if wire::equal(key, config(names, 24)) {
-        return Some(Mode::Standard);
+        return protocol::STANDARD;
     }
     if wire::equal(key, config(names, 56)) {
-        return Some(Mode::Reward);
+        return protocol::REWARD;
     }
-    None
+    0
 }
 
 // The pair goes by the input's key, so equal token accounts flip it.
@@ -56,7 +56,7 @@ pub fn leg(names: &[u8], i: &Instruction) -> Option<Swap>
     let (amount, threshold) = i.numbers(8)?;
     let (input, output) = in_order(buy, 6, 5);
     Some(Swap {
-        protocol: Protocol::LaunchLab,
+        protocol: protocol::LAUNCH_LAB,
         pool: 4,
         trader: 0,
         input,

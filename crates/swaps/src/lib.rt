@@ -13,6 +13,7 @@ mod draft;
 mod instruction;
 mod launchlab;
 mod orca;
+mod protocol;
 mod pumpfun;
 mod pumpswap;
 pub mod row;
@@ -24,26 +25,6 @@ ghost use Rattle.swaps.specs.Swap.{trades as trades_of, by_program, indexes, leg
 use ids::Id;
 use instruction::Instruction;
 
-// The eight protocols, with their numbers in a row.
-#[derive(Clone, Copy)]
-pub enum Protocol {
-    PumpSwap = 1,
-    LaunchLab = 2,
-    Cpmm = 3,
-    AmmV4 = 4,
-    Clmm = 5,
-    Orca = 6,
-    Dlmm = 7,
-    PumpFun = 8,
-}
-
-// What a LaunchLab pool's platform config stands for, with its number in a row.
-#[derive(Clone, Copy)]
-pub enum Mode {
-    Standard = 1,
-    Reward = 2,
-}
-
 // The accounts that are the mints of the input and of the output.
 #[derive(Clone, Copy)]
 pub struct Pair {
@@ -54,7 +35,7 @@ pub struct Pair {
 // A leg in numbers. Accounts are indexes of keys in what `leg` answers, and places among the instruction's accounts in a protocol's own function.
 #[derive(Clone, Copy)]
 pub struct Swap {
-    pub protocol: Protocol,
+    pub protocol: u8,
     pub pool: u8,
     pub trader: u8,
     pub input: u8,
@@ -62,7 +43,7 @@ pub struct Swap {
     pub exact: bool,
     pub amount: u64,
     pub threshold: u64,
-    pub mode: Option<Mode>,
+    pub mode: u8,
     pub pair: Option<Pair>,
 }
 

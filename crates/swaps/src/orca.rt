@@ -6,7 +6,7 @@ ghost use Rattle.swaps.specs.Orca.{orca, orca_form};
 use crate::discriminators::{SWAP, SWAP_V2};
 use crate::draft::{in_order, pair_of};
 use crate::instruction::Instruction;
-use crate::{Protocol, Swap};
+use crate::{Swap, protocol};
 
 // `swap` with 11 accounts, or `swap_v2` with 15: whether it is `swap_v2`.
 #[tactic(auto, unfolding(crate::specs::Data::is))]
@@ -34,7 +34,7 @@ pub fn leg(i: &Instruction) -> Option<Swap>
     if v2 {
         let (input, output) = in_order(direction, 7, 9);
         Some(Swap {
-            protocol: Protocol::Orca,
+            protocol: protocol::ORCA,
             pool: 4,
             trader: 3,
             input,
@@ -42,13 +42,13 @@ pub fn leg(i: &Instruction) -> Option<Swap>
             exact,
             amount,
             threshold,
-            mode: None,
+            mode: 0,
             pair: Some(pair_of(i.same_account(input, 7), 5, 6)),
         })
     } else {
         let (input, output) = in_order(direction, 3, 5);
         Some(Swap {
-            protocol: Protocol::Orca,
+            protocol: protocol::ORCA,
             pool: 2,
             trader: 1,
             input,
@@ -56,7 +56,7 @@ pub fn leg(i: &Instruction) -> Option<Swap>
             exact,
             amount,
             threshold,
-            mode: None,
+            mode: 0,
             pair: None,
         })
     }

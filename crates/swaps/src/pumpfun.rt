@@ -8,7 +8,7 @@ use crate::discriminators::{
 };
 use crate::draft::{in_order, pair_of};
 use crate::instruction::Instruction;
-use crate::{Protocol, Swap};
+use crate::{Swap, protocol};
 
 // A form of an instruction: whether it is of version 2, whether it buys, and whether it is exact-in.
 #[derive(Clone, Copy)]
@@ -94,7 +94,7 @@ pub fn leg(i: &Instruction) -> Option<Swap>
     };
     let (input, output) = in_order(buy, money, places.base);
     Some(Swap {
-        protocol: Protocol::PumpFun,
+        protocol: protocol::PUMP_FUN,
         pool: places.pool,
         trader: places.user,
         input,
@@ -102,7 +102,7 @@ pub fn leg(i: &Instruction) -> Option<Swap>
         exact,
         amount,
         threshold,
-        mode: None,
+        mode: 0,
         pair: Some(pair_of(buy, 2, 1)),
     })
 }

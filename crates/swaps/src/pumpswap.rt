@@ -6,7 +6,7 @@ ghost use Rattle.swaps.specs.PumpSwap.{track_volume, pump_swap, pump_swap_form};
 use crate::discriminators::{BUY_EXACT_QUOTE_IN, BUY_EXACT_QUOTE_IN_V2, BUY_V2, SELL, SELL_V2};
 use crate::draft::{Form, in_order, pair_of};
 use crate::instruction::Instruction;
-use crate::{Protocol, Swap};
+use crate::{Swap, protocol};
 
 #[tactic(auto, unfolding(crate::specs::Data::is))]
 fn form_of(names: &[u8], i: &Instruction) -> Option<Form>
@@ -46,7 +46,7 @@ pub fn leg(names: &[u8], i: &Instruction) -> Option<Swap>
     let (amount, threshold) = i.numbers(8)?;
     let (input, output) = in_order(buy, 6, 5);
     Some(Swap {
-        protocol: Protocol::PumpSwap,
+        protocol: protocol::PUMP_SWAP,
         pool: 0,
         trader: 1,
         input,
@@ -54,7 +54,7 @@ pub fn leg(names: &[u8], i: &Instruction) -> Option<Swap>
         exact,
         amount,
         threshold,
-        mode: None,
+        mode: 0,
         pair: Some(pair_of(i.same_account(input, 6), 4, 3)),
     })
 }

@@ -1,13 +1,13 @@
 // A leg's row of table 3.
-ghost use Rattle.std.specs.Prelude.{◌≡◌, ◌&&◌, option_map};
+ghost use Rattle.std.specs.Prelude.{◌≡◌, ◌&&◌, eqb, option_map};
 ghost use Rattle.std.proofs.lemmas.List.Edits.{sets};
 ghost use Rattle.ids.specs.Keys.{key_of};
 ghost use Rattle.ids.specs.Mints.{mint_of, mint_field};
 ghost use Rattle.pack.specs.View.{pools_in};
-ghost use Rattle.swaps.specs.Leg.{contains, explicit, or_else, leg_with, is_cpmm};
-ghost use Rattle.swaps.specs.Row.{key_bytes, end_bytes, leg_row, side as side_of, protocol_number, mode_number};
+ghost use Rattle.swaps.specs.Leg.{contains, explicit, or_else, leg_with};
+ghost use Rattle.swaps.specs.Row.{key_bytes, end_bytes, leg_row, side as side_of};
 
-use crate::{Mode, Protocol, Swap};
+use crate::{Swap, protocol};
 
 // The bytes of a row.
 pub const WIDTH: usize = 250;
@@ -22,27 +22,9 @@ fn holds(pools: &[u8], key: &[u8]) -> bool
 // A CPMM pool that is among the graduated ones.
 #[tactic(auto, unfolding(ids::specs::Keys::zero_key))]
 fn graduated(leg: Swap, keys: &[u8], pools: &[u8]) -> bool
-    ensures { result ≡ (is_cpmm leg.protocol && contains (pools_in pools.now) (key_of keys.now leg.pool)) }
+    ensures { result ≡ (eqb leg.protocol 3 && contains (pools_in pools.now) (key_of keys.now leg.pool)) }
 {
-    matches!(leg.protocol, Protocol::Cpmm)
-        && holds(pools, ids::key(keys, &[0; 32], usize::from(leg.pool)))
-}
-
-// The number of a protocol.
-fn protocol_number(protocol: Protocol) -> u8
-    ensures { result ≡ protocol_number protocol }
-{
-    protocol as u8
-}
-
-// The number of a mode, 0 for none.
-fn mode_number(mode: Option<Mode>) -> u8
-    ensures { result ≡ mode_number mode }
-{
-    match mode {
-        None => 0,
-        Some(mode) => mode as u8,
-    }
+    leg.protocol == protocol::CPMM && holds(pools, ids::key(keys, &[0; 32], usize::from(leg.pool)))
 }
 
 // The five keys, from place 5 of a row on.
@@ -86,7 +68,7 @@ fn put_end(row: &mut [u8], leg: Swap, graduated: bool)
     wire::put_byte(row, 231, u8::from(leg.exact));
     wire::put_u64(row, 232, leg.amount);
     wire::put_u64(row, 240, leg.threshold);
-    wire::put_byte(row, 248, mode_number(leg.mode));
+    wire::put_byte(row, 248, leg.mode);
     wire::put_byte(row, 249, u8::from(graduated));
 }
 
@@ -113,7 +95,7 @@ pub fn put_leg<'a>(
     }
     let mut row = [0u8; WIDTH];
     wire::put_u32(&mut row, 0, invocation);
-    wire::put_byte(&mut row, 4, protocol_number(leg.protocol));
+    wire::put_byte(&mut row, 4, leg.protocol);
     put_keys(&mut row, keys, program, leg);
     put_side(&mut row, 165, spent, keys, leg.pair.map(|pair| pair.input));
     put_side(

@@ -21,7 +21,6 @@ returns c =
       c.put_u64-2.ensures,
       c.put_u64.ensures,
       c.put_byte.ensures,
-      c.mode_number.ensures,
       c.from-2.ensures,
       c.from.ensures,
     )

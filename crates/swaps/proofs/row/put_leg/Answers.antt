@@ -31,7 +31,6 @@ returns c =
       i,
       c.put_keys.ensures,
       c.put_byte.ensures,
-      c.protocol_number.ensures,
       c.put_u32.ensures,
     )
     (ap (sets a.out.now a.at)
