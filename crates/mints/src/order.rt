@@ -8,8 +8,8 @@ ghost use Rattle.mints.specs.Order.{spot_in, Rising, put_in, sort_to, rows_bytes
 use crate::WIDTH;
 use crate::row::Row;
 
-// The place of row r among ordered rows: before the first whose account is greater. They ascend, so it is found by halving. By hand: `partition_point` and the
-// halving of `month` ask that a closure may be called, and a public function that both crates could share asks nothing.
+// The place of row r among ordered rows: before the first whose account is greater. They ascend, so it is found by halving. By hand: a closure for
+// `partition_point` would have to answer for numbers of rows that there are not.
 fn spot(table: &[Row], order: &[u32], r: usize) -> usize
     requires { (r < length table.now) × Fits table.now order.now × Rising table.now order.now }
     ensures { result ≡ spot_in table.now r order.now }

@@ -14,13 +14,6 @@ pub enum State {
 
 impl State {
     #[tactic(auto, unfolding(crate::specs::Cells::number_of))]
-    pub(crate) fn is_unknown(self) -> bool
-        ensures { result ≡ eqb (number_of self) 0 }
-    {
-        matches!(self, State::Unknown)
-    }
-
-    #[tactic(auto, unfolding(crate::specs::Cells::number_of))]
     pub(crate) fn is_filled_in(self) -> bool
         ensures { result ≡ eqb (number_of self) 3 }
     {

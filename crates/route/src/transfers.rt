@@ -23,10 +23,11 @@ pub(crate) fn mint(mints: &[u8; 8192], index: u8) -> &[u8]
 }
 
 // How many rows there are: one for a transfer, which is reason 0, else none.
+#[tactic(auto, unfolding(crate::specs::Transfers::transfer_count))]
 fn rows(reason: u8) -> usize
     ensures { result ≡ transfer_count reason }
 {
-    if reason == 0 { 1 } else { 0 }
+    usize::from(reason == 0)
 }
 
 // Writes the row of a candidate, if it gives a transfer. Answers why it gives none, or 0.

@@ -10,10 +10,6 @@ use Rattle.swaps.specs.Draft.{bare_swap, pairing}
 abbrev pub clmm_takes : ℕ → List ℕ → Bool
 clmm_takes n d = (is d SWAP || is d SWAP_V2) && leb (cond (is d SWAP_V2) 13 10) n
 
--- whether it is then `swap_v2`
-abbrev pub clmm_form : ℕ → List ℕ → Option Bool
-clmm_form n d = when (clmm_takes n d) (Some (is d SWAP_V2))
-
 -- its leg; only `swap_v2` has an `explicit_pair`
 abbrev pub clmm_leg : Bool → Bool → ℕ → ℕ → Swap
 clmm_leg v2 exact amount threshold =

@@ -1,7 +1,8 @@
 -- What the protocols read of an instruction's data d.
 -- Assumes nothing.
-use Rattle.std.specs.Prelude.{ℕ, ◌+◌, Bool, false, cond, ◌&&◌, List, leb, ltb, eqb, length, get_or, Option, Some, None}
+use Rattle.std.specs.Prelude.{ℕ, ◌+◌, Bool, false, cond, ◌&&◌, ◌||◌, List, leb, ltb, eqb, length, get_or, Option, Some, None}
 use Rattle.wire.specs.Le.{le}
+use Rattle.swaps.specs.Discriminators.{SWAP, SWAP_V2}
 use Rattle.swaps.specs.Draft.{in_order}
 
 -- `disc`: the first eight bytes as one number, if they are there
@@ -44,3 +45,7 @@ numbers_at d at = both d at (λ first second. Some (first, second))
 -- amount and threshold, the two numbers in the order that `exact` asks for
 abbrev pub stated_at : List ℕ → ℕ → Bool → Option (ℕ × ℕ)
 stated_at d at exact = both d at (λ first second. Some (in_order exact first second))
+
+-- whether it is `swap_v2` and not `swap`, with at least so many accounts for each
+abbrev pub swap_form : ℕ → ℕ → ℕ → List ℕ → Option Bool
+swap_form floor floor_v2 n d = when ((is d SWAP || is d SWAP_V2) && leb (cond (is d SWAP_V2) floor_v2 floor) n) (Some (is d SWAP_V2))

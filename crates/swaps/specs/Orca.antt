@@ -22,10 +22,6 @@ orca_v2 a direction exact amount threshold =
 abbrev pub orca_takes : ℕ → List ℕ → Bool
 orca_takes n d = (is d SWAP || is d SWAP_V2) && (is_flag d 41 && leb (cond (is d SWAP_V2) 15 11) n)
 
--- whether it is `swap_v2`, with accounts enough
-abbrev pub orca_form : ℕ → List ℕ → Option Bool
-orca_form n d = when ((is d SWAP || is d SWAP_V2) && leb (cond (is d SWAP_V2) 15 11) n) (Some (is d SWAP_V2))
-
 -- `swap` for ORCA_WHIRLPOOL_PROGRAM_ID: n accounts, a their keys, data d
 unfoldable pub orca : (ℕ → Key) → ℕ → List ℕ → Option Swap
 orca a n d =

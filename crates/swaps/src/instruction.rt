@@ -1,9 +1,10 @@
 // An instruction, and what the protocols read of it.
-ghost use Rattle.std.specs.Prelude.{◌≡◌};
+ghost use Rattle.std.specs.Prelude.{◌≡◌, length};
 ghost use Rattle.wire.specs.Same.{same};
 ghost use Rattle.ids.specs.Keys.{key_of, account as account_of};
-ghost use Rattle.swaps.specs.Data.{discriminator as discriminator_of, flag_at, numbers_at, stated_at};
+ghost use Rattle.swaps.specs.Data.{discriminator as discriminator_of, flag_at, numbers_at, stated_at, swap_form};
 
+use crate::discriminators::{SWAP, SWAP_V2};
 use crate::draft::in_order;
 
 // The key section, the index byte of each account, and the data.
@@ -23,6 +24,19 @@ impl<'a> Instruction<'a> {
             return None;
         }
         Some(wire::u64_at(self.bytes, 0))
+    }
+
+    // Whether it is `swap_v2` and not `swap`, with at least so many accounts for each.
+    #[tactic(auto, unfolding(crate::specs::Data::is))]
+    pub fn is_v2(&self, floor: usize, floor_v2: usize) -> Option<bool>
+        ensures { result ≡ swap_form floor floor_v2 (length self.now.accounts.now) self.now.bytes.now }
+    {
+        let n = self.accounts.len();
+        match self.discriminator()? {
+            SWAP if floor <= n => Some(false),
+            SWAP_V2 if floor_v2 <= n => Some(true),
+            _ => None,
+        }
     }
 
     // The byte at `at` as a bool: 0 or 1.
