@@ -7,11 +7,8 @@ use Prim.Native.Nat.{ℕ, zero, suc, ◌+◌, ◌-◌, ◌*◌, ◌<◌, ◌≤�
 use native.Mathlib.Numerals.{add-one}
 use native.Mathlib.Omega.{arith}
 use lib.Dec.{ltb}
-use lib.ListN.{length, get_or, take, length-append, set, length-take}
+use lib.ListN.{length, get_or, take, length-append, set}
 use lib.Seq.{sets, take-suc, set-get_or, get_or-take}
-use mathlib.Core.Logic.{by_cases}
-use native.Mathlib.Decide.{dec_lt}
-use Rattle.std.proofs.lemmas.List.{get_or_past}
 use Rattle.wire.proofs.Sets.{sets-append, sets-after}
 use Rattle.wire.specs.Zeros.{zeros}
 use Rattle.wire.proofs.Zeros.{zeros-at}
@@ -19,7 +16,7 @@ use Rattle.ids.specs.Keys.{zero_key}
 use Rattle.evidence.specs.MintTable.{MintRow}
 use Rattle.mints.specs.declared.row.Row.{Row}
 use Rattle.mints.specs.Bytes.{mint_width, mint_row}
-use Rattle.mints.specs.Cells.{account_at, mint_at, state_at, Fits}
+use Rattle.mints.specs.Cells.{account_at, mint_at, state_at}
 use Rattle.mints.specs.Order.{row_bytes, rows_bytes, shown_mint, mints_to, Blank}
 
 -- zeros over zeros change nothing
@@ -38,14 +35,6 @@ mint-none l t i r f h = rw h (sym (sets-blank l i 32 f))
 pub mints-more : (t : List Row) (row : List ℕ) (n : ℕ) → length (mints_to t row n) ≡ n * 32 → length (shown_mint t (get_or row n 0)) ≡ 32 → length (mints_to t row (n + 1)) ≡ (n + 1) * 32
 unfolding mints_to
 mints-more t row n l e = rw (add-one, length-append) (omega (arith, l, e))
-
--- fewer rows fit too
-pub fits-take : (t : List Row) (row : List ℕ) (n : ℕ) → Fits t row → Fits t (take n row)
-fits-take t row n f i =
-    by_cases
-    (dec_lt i n)
-    (λ (l : i < n). rw (get_or-take n row i 0 l) (f i))
-    (λ (l : ¬ (i < n)). rw (get_or_past (take n row) i 0 (simp length-take (omega arith))) (omega (arith, f i)))
 
 -- the mints of fewer indexes
 pub mints-take : (t : List Row) (row : List ℕ) (n i : ℕ) → i ≤ n → mints_to t (take n row) i ≡ mints_to t row i

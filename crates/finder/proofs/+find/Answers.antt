@@ -1,6 +1,6 @@
 -- The first call goes on behind a child, the second at the end of the child's block, which lies behind the child.
 -- Assumes nothing.
-use Rattle.finder.proofs.Finding.{all-length, holds, found_none, behind, reached, found-child}
+use Rattle.finder.proofs.Finding.{all-length, holds, found_none, behind, found-child}
 use Rattle.finder.specs.Found.{all_positions}
 use Rattle.subtrees.specs.Subtrees.{within, joined}
 use Rattle.subtrees.proofs.Blocks.{past, stops}
@@ -30,19 +30,6 @@ find-rest-requires t c =
     let a = c.args in
     let w = behind a.run.now.places.now a.run.now.own.now a.at c.find-child.result (omega arith) c.find-child.ensures in
     (omega arith, (omega arith, omega arith))
-
-pub overflow_add-result : goal.overflow_add-result
-overflow_add-result t c =
-    let a = c.args in
-    let w = behind a.run.now.places.now a.run.now.own.now a.at c.find-child.result (omega arith) c.find-child.ensures in
-    omega arith
-
-pub overflow_add-result-2 : goal.overflow_add-result-2
-overflow_add-result-2 t c =
-    let a = c.args in
-    let w = behind a.run.now.places.now a.run.now.own.now a.at c.find-child.result (omega arith) c.find-child.ensures in
-    let k = reached a.run.now.places.now a.run.now.own.now a.i c.find-child.result.end c.find-rest.result (omega arith) c.find-rest.ensures in
-    omega arith
 
 pub returns : goal.returns
 unfolding position_in_places blank_place

@@ -9,16 +9,10 @@ use Rattle.mints.specs.Conclude.{Concluded}
 use Rattle.std.proofs.lemmas.Result.{err_from_is_err_and}
 use lib.Seq.{length-take-le}
 use lib.ListN.{length, length-take, length-replicate}
-use Prim.Native.Nat.{ℕ, ◌≤◌}
+use Prim.Native.Nat.{◌≤◌}
 use mathlib.Core.Path.{◌≡◌, refl, sym, ap, ◌∙◌}
 use native.Mathlib.Omega.{arith}
 use Rattle.mints.proofs.conclude.Goals as goal
-
-pub lay-rows-requires : goal.lay-rows-requires
-lay-rows-requires c =
-    let t = ap length c.requires.2 ∙ length-replicate 257 blank_row in
-    let r = ap length c.requires.3 ∙ length-replicate {A = ℕ} 256 0 in
-    (omega (arith, r), omega (arith, t), omega (arith, t))
 
 pub note_balances-recorded-requires : goal.note_balances-recorded-requires
 note_balances-recorded-requires c =

@@ -1,6 +1,6 @@
 -- The three calls write what they promise: the ordered rows, their bytes, and the mints by key index; ordered rows are whole rows of the table.
 use Rattle.mints.proofs.Sorting.{sort-first, sort-fits, sort-length}
-use Rattle.mints.proofs.Writing.{mints-take, fits-take}
+use Rattle.mints.proofs.Writing.{mints-take}
 use lib.Seq.{length-take-le}
 use lib.ListN.{length, take, length-take}
 use mathlib.Core.Path.{◌≡◌, ap, ◌∙◌}
@@ -18,13 +18,6 @@ write_rows-requires c =
       simp length-take (omega (arith, q.0, ap length e, sort-length t n)),
       rw (q.1, e) (sort-fits t n (omega arith) (omega arith)),
     )
-
-pub write_mints-requires : goal.write_mints-requires
-write_mints-requires c =
-    let a = c.args in
-    let p = c.requires.rows_bound in
-    let t = a.table.now in
-    (simp length-take (omega (arith, p.2)), fits-take t a.row.now a.n p.4, c.requires.known_value)
 
 pub returns : goal.returns
 returns c =

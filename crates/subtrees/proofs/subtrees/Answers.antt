@@ -5,7 +5,7 @@ use Rattle.subtrees.proofs.Arrays.{positions-length, taken_min}
 use Rattle.subtrees.specs.Subtrees.{positions}
 use lib.ListN.{length, length-set}
 use mathlib.Core.Path.{◌≡◌, refl}
-use Prim.Native.Nat.{◌+◌, ◌-◌, ◌≤◌}
+use Prim.Native.Nat.{◌-◌, ◌≤◌}
 use native.Mathlib.Omega.{arith}
 use Rattle.std.proofs.Math.Nat.{min-le_right}
 use Rattle.subtrees.proofs.subtrees.Goals as goal
@@ -15,17 +15,6 @@ loop-i-init c =
     let k = c.min-count.result in
     let ps = positions c.args.places.now k in
     (refl, refl, refl, omega arith, filling-none ps c.args.own.now k (positions-length c.args.places.now k))
-
-pub step-found-requires-clause-i_lt_n : goal.step-found-requires-clause-i_lt_n
-step-found-requires-clause-i_lt_n c = (omega arith, omega (arith, min-le_right), c.loop-i.invariant.2)
-
-pub step-found-requires-clause-known : goal.step-found-requires-clause-known
-step-found-requires-clause-known c = λ m p q. c.loop-i.invariant.4.known m (omega arith) q
-
-pub step-found-requires-clause-parented : goal.step-found-requires-clause-parented
-step-found-requires-clause-parented c =
-    let down : c.loop-i.i - 1 + 1 ≡ c.loop-i.i = omega arith in
-    rw down c.loop-i.invariant.4.parented
 
 pub loop-i-preserved : goal.loop-i-preserved
 loop-i-preserved c =

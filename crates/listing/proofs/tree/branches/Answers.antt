@@ -47,9 +47,3 @@ loop-i-preserved c =
     ∙ ap (λ (t : List ℕ). t ++ line l.i) l.invariant
     ∙ append_assoc before (first_lines line l.i) (line l.i)
     ∙ ap (λ (t : List ℕ). before ++ t) (sym (branches-more line l.i))
-
-pub returns : goal.returns
-returns c =
-    let l = c.loop-i in
-    let e : l.i ≡ c.args.n = omega arith in
-    rw e at l.invariant

@@ -5,7 +5,7 @@ use Rattle.listing.specs.Tree.{own_in}
 use Rattle.route.proofs.Rows.{array-more}
 use Rattle.wire.specs.Tab.{tab}
 use native.Mathlib.Nat.{add-sub_cancel_left}
-use mathlib.Core.Path.{◌≡◌, refl}
+use mathlib.Core.Path.{refl}
 use native.Mathlib.Omega.{arith}
 use Rattle.listing.proofs.tree.put_own.Goals as goal
 
@@ -18,9 +18,3 @@ loop-i-preserved c =
     let l = c.loop-i in
     let a = c.args in
     (omega arith, rw (simp add-sub_cancel_left at c.own_in.ensures) (array-more (λ j. own_in (row_in a.rows.now j)) l.i a.own.now l.own l.invariant.1))
-
-pub returns : goal.returns
-returns c =
-    let l = c.loop-i in
-    let e : l.i ≡ c.args.n = omega arith in
-    rw e at l.invariant.1

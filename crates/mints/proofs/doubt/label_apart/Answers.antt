@@ -6,21 +6,15 @@ use Rattle.wire.proofs.Tab.{tab-length}
 use lib.Seq.{take_all}
 use lib.ListN.{length, length-set}
 use Prim.Native.Nat.{ℕ}
-use mathlib.Core.Path.{◌≡◌, refl, ◌∙◌}
+use mathlib.Core.Path.{◌≡◌, ◌∙◌}
 use native.Mathlib.Omega.{arith}
 use Rattle.mints.proofs.doubt.label_apart.Goals as goal
-
-pub loop-r-init : goal.loop-r-init
-loop-r-init c = (refl, refl)
 
 pub loop-r-preserved : goal.loop-r-preserved
 loop-r-preserved c =
     let l = c.loop-r in
     let a = c.args in
     (simp length-set l.invariant.0, rw l.invariant.1 (own-more a.label.now (length a.label.now) l.r (omega arith)))
-
-pub shape_of-label : goal.shape_of-label
-shape_of-label c = c.loop-r.invariant.0
 
 pub returns : goal.returns
 returns c =

@@ -1,18 +1,13 @@
 -- Each turn marks one row more; marks keep the length, so that the rows go on fitting.
 use Rattle.mints.proofs.Labelling.{mark-skip, mark-next}
 use Rattle.mints.specs.Doubt.{marks_to}
-use lib.ListN.{length}
-use mathlib.Core.Path.{◌≡◌, refl, ◌∙◌}
-use native.Mathlib.Omega.{arith}
+use mathlib.Core.Path.{refl, ◌∙◌}
 use Rattle.mints.proofs.doubt.mark.Goals as goal
 use Rattle.mints.proofs.doubt.mark.Goals.{then-label-r-eq0, else-label-r-eq0}
 
 pub loop-r-init : goal.loop-r-init
 unfolding marks_to
 loop-r-init c = (refl, refl)
-
-pub doubt-requires : goal.doubt-requires
-doubt-requires c = omega (arith, c.loop-r.invariant.0, c.requires)
 
 pub loop-r-preserved : goal.loop-r-preserved
 loop-r-preserved c =
@@ -22,12 +17,3 @@ loop-r-preserved c =
       | then-label-r-eq0 w ↦ rw w.table-is (w.doubt.auto.table ∙ l.invariant.0, w.doubt.ensures ∙ mark-next a.table.now a.label.now l.r l.invariant.1 w.if-label-r-eq0.true)
       | else-label-r-eq0 w ↦ rw w.table-is (l.invariant.0, mark-skip a.table.now a.label.now l.r l.invariant.1 w.if-label-r-eq0.false)
     ]
-
-pub shape_of-table : goal.shape_of-table
-shape_of-table c = c.loop-r.invariant.0
-
-pub returns : goal.returns
-returns c =
-    let l = c.loop-r in
-    let n : l.r ≡ length c.args.label.now = omega arith in
-    rw n at l.invariant.1

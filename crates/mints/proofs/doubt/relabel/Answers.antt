@@ -4,7 +4,7 @@ use Rattle.mints.specs.Doubt.{relabelled}
 use Rattle.wire.proofs.Sets.{sets-whole}
 use lib.Seq.{take_all}
 use lib.ListN.{length, length-set}
-use mathlib.Core.Path.{◌≡◌, refl, sym, ◌∙◌}
+use mathlib.Core.Path.{◌≡◌, sym, ◌∙◌}
 use native.Mathlib.Omega.{arith}
 use Rattle.mints.proofs.doubt.relabel.Goals as goal
 
@@ -12,9 +12,6 @@ pub returns-then-x-y : goal.returns-then-x-y
 returns-then-x-y c =
     let a = c.args in
     sym (relabelled-none a.x a.y a.label.now c.if-x-y.true)
-
-pub loop-z-init : goal.loop-z-init
-loop-z-init c = (refl, refl)
 
 pub loop-z-preserved : goal.loop-z-preserved
 loop-z-preserved c =

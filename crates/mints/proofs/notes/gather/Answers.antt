@@ -11,12 +11,6 @@ pub loop-i-init : goal.loop-i-init
 unfolding gather_to
 loop-i-init c = (refl, refl, omega arith, omega arith, refl, refl)
 
-pub overflow_cast-o : goal.overflow_cast-o
-overflow_cast-o c = omega arith
-
-pub bounds-programs-i : goal.bounds-programs-i
-bounds-programs-i c = omega (arith, c.requires.at_in_bounds.1)
-
 pub loop-i-preserved-then-not-token_program : goal.loop-i-preserved-then-not-token_program
 loop-i-preserved-then-not-token_program c =
     let l = c.loop-i in
@@ -58,16 +52,10 @@ loop-i-preserved-in_default c =
       program-next ks p o l.i few filled program id c.loop-i-test.true a.programs.now l.invariant.5,
     )
 
-pub observe-room-requires : goal.observe-room-requires
-observe-room-requires c = λ i. rw c.loop-i.invariant.0 (c.requires.fits.0 i)
-
 pub overflow_add-room : goal.overflow_add-room
 overflow_add-room c =
     let l = c.loop-i in
     omega (arith, l.invariant.2, room_next c.args.keys.now c.args.row.now c.in-Some.token c.accounts-accounts.result.now l.table l.room l.i c.observe-room.ensures l.invariant.2)
-
-pub list-count-requires : goal.list-count-requires
-list-count-requires c = omega (arith, c.loop-i.invariant.1, c.requires.at_in_bounds.0)
 
 pub loop-i-preserved : goal.loop-i-preserved
 loop-i-preserved c =
@@ -92,12 +80,6 @@ loop-i-preserved c =
       gather-next ks p o row (record { noted = record { table = a.table.now; room = 0 }; transfers = a.transfers.now; count = 0 }) l.i l.invariant.4 token c.accounts-accounts.ensures c.observe-room.ensures q.value q.transfers_after,
       program-next ks p o l.i few filled program id c.loop-i-test.true a.programs.now l.invariant.5,
     )
-
-pub shape_of-table : goal.shape_of-table
-shape_of-table c = c.loop-i.invariant.0
-
-pub shape_of-transfers : goal.shape_of-transfers
-shape_of-transfers c = c.loop-i.invariant.1
 
 pub returns : goal.returns
 returns c =

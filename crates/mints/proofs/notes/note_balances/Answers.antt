@@ -1,8 +1,8 @@
 -- Each turn notes one balance row more, and a note records at most one account more, so the count does not overflow.
 use Rattle.mints.proofs.Noting.{one-new, balance-next}
 use Rattle.mints.specs.Note.{note_at, balances_to}
-use lib.ListN.{length, take, drop, length-take, length-drop}
-use Prim.Native.Nat.{◌+◌, ◌*◌, ◌-◌, ◌/◌}
+use lib.ListN.{take, drop}
+use Prim.Native.Nat.{◌+◌, ◌*◌, ◌-◌}
 use mathlib.Core.Path.{◌≡◌, refl, ◌∙◌}
 use native.Mathlib.Omega.{arith}
 use Rattle.mints.proofs.notes.note_balances.Goals as goal
@@ -10,14 +10,6 @@ use Rattle.mints.proofs.notes.note_balances.Goals as goal
 pub loop-i-init : goal.loop-i-init
 unfolding balances_to
 loop-i-init c = (refl, omega arith, refl)
-
-pub note-room-requires : goal.note-room-requires
-note-room-requires c =
-    let l = c.loop-i in
-    let s = c.args.balances.now in (
-      simp (length-take, length-drop) (omega arith),
-      omega (arith, c.row_of-r.ensures, c.requires c.u32_at.result),
-    )
 
 pub overflow_add-room : goal.overflow_add-room
 overflow_add-room c =
@@ -37,12 +29,3 @@ loop-i-preserved c =
       omega (arith, q.1, one-new l.table row_of.result (take (l.i * 36 + 36 - (l.i * 36 + 4)) (drop (l.i * 36 + 4) a.balances.now))),
       rw (q.0, q.1, row_of.ensures, c.u32_at.ensures, w) (balance-next a.balances.now a.row.now a.table.now l.i l.invariant.2),
     )
-
-pub shape_of-table : goal.shape_of-table
-shape_of-table c = c.loop-i.invariant.0
-
-pub returns : goal.returns
-returns c =
-    let l = c.loop-i in
-    let n : l.i ≡ length c.args.balances.now / 36 = omega arith in
-    rw n at l.invariant.2

@@ -1,20 +1,13 @@
 -- The match has the definition's cases, and a checked transfer is two notes one after the other.
-use lib.ListN.{length}
 use Rattle.mints.specs.Note.{Noted}
 use Rattle.mints.specs.Gather.{observed}
 use Rattle.mints.proofs.Noting.{one_more}
 use Rattle.mints.proofs.Gathering.{account-counted}
 use Rattle.ids.specs.Keys.{key_of}
 use mathlib.Core.Logic.{⊎_elim}
-use mathlib.Core.Path.{◌≡◌, ap}
+use mathlib.Core.Path.{ap}
 use native.Mathlib.Omega.{arith}
 use Rattle.mints.proofs.notes.observe.Goals as goal
-
-pub note_account-requires-in-Checked : goal.note_account-requires-in-Checked
-note_account-requires-in-Checked c =
-    let source = c.note_account-source in
-    let k : length source.new.table ≡ length c.args.table.now = source.auto.table in
-    λ i. rw k (c.requires i)
 
 pub overflow_add-result : goal.overflow_add-result
 overflow_add-result c =

@@ -3,7 +3,7 @@ use Rattle.mints.proofs.Sorting.{spot-bound, put-length, sort-skip, sort-next, s
 use Rattle.mints.specs.Order.{spot_in, sort_to}
 use lib.ListN.{length, take}
 use native.Mathlib.Numerals.{add-one}
-use mathlib.Core.Path.{◌≡◌, refl, sym, ap, ◌∙◌}
+use mathlib.Core.Path.{refl, sym, ap, ◌∙◌}
 use native.Mathlib.Omega.{arith}
 use Rattle.mints.proofs.order.sort.Goals as goal
 
@@ -40,12 +40,3 @@ loop-r-preserved c =
       rw (e, n, ← l.invariant.2) (add-one l.k),
       rw (add-one l.k, e) (c.insert.ensures ∙ rw (c.spot-j.ensures, l.invariant.3)),
     )
-
-pub shape_of-order : goal.shape_of-order
-shape_of-order c = c.loop-r.invariant.0
-
-pub returns : goal.returns
-returns c =
-    let l = c.loop-r in
-    let n : l.r ≡ length c.args.table.now = omega arith in
-    (rw n at l.invariant.2, rw n at l.invariant.3)

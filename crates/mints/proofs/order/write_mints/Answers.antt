@@ -2,10 +2,10 @@
 use Rattle.mints.proofs.Writing.{mints-more, mints-blank}
 use Rattle.mints.specs.Order.{shown_mint, mints_to}
 use Rattle.wire.proofs.Sets.{sets-next}
-use lib.ListN.{length, get_or}
+use lib.ListN.{get_or}
 use Prim.Native.Nat.{◌*◌}
 use native.Mathlib.Numerals.{add-one}
-use mathlib.Core.Path.{◌≡◌, refl, ◌∙◌}
+use mathlib.Core.Path.{refl, ◌∙◌}
 use native.Mathlib.Omega.{arith}
 use Rattle.mints.proofs.order.write_mints.Goals as goal
 
@@ -28,12 +28,3 @@ loop-i-preserved c =
       mints-more a.table.now a.row.now l.i l.invariant.1 q.1,
       q.0 ∙ rw (l.invariant.2, add-one l.i) (sets-next a.out.now 0 (mints_to a.table.now a.row.now l.i) (shown_mint a.table.now (get_or a.row.now l.i 0)) (l.i * 32) (omega (arith, l.invariant.1))),
     )
-
-pub shape_of-out : goal.shape_of-out
-shape_of-out c = c.loop-i.invariant.0
-
-pub returns : goal.returns
-returns c =
-    let l = c.loop-i in
-    let n : l.i ≡ length c.args.row.now = omega arith in
-    rw n at l.invariant.2

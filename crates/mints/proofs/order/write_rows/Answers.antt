@@ -2,10 +2,9 @@
 use Rattle.mints.proofs.Writing.{row-length, rows_next, rows-more, row_put}
 use Rattle.mints.specs.Order.{row_bytes, rows_bytes}
 use Rattle.wire.proofs.Sets.{sets-next}
-use lib.Seq.{take-length}
 use lib.ListN.{length, get_or, take}
 use Prim.Native.Nat.{◌*◌, ◌<◌}
-use mathlib.Core.Path.{◌≡◌, refl, ◌∙◌}
+use mathlib.Core.Path.{refl, ◌∙◌}
 use native.Mathlib.Omega.{arith}
 use Rattle.mints.specs.Bytes.{mint_width}
 use Rattle.mints.proofs.order.write_rows.Goals as goal
@@ -26,12 +25,3 @@ loop-j-preserved c =
       rows-more a.table.now a.order.now l.j n l.invariant.1 (row-length a.table.now r x y),
       c.put_byte.ensures ∙ rw (c.put-in-loop-j.ensures, c.put.ensures, c.account.ensures.0, c.mint.ensures.0, c.mark.ensures, row_put l.out a.table.now (l.j * mint_width) r x y, l.invariant.2, rows_next a.table.now a.order.now l.j n) (sets-next a.out.now 0 (rows_bytes a.table.now (take l.j a.order.now)) (row_bytes a.table.now r) (l.j * mint_width) (omega (arith, l.invariant.1))),
     )
-
-pub shape_of-out : goal.shape_of-out
-shape_of-out c = c.loop-j.invariant.0
-
-pub returns : goal.returns
-returns c =
-    let l = c.loop-j in
-    let n : l.j ≡ length c.args.order.now = omega arith in
-    l.invariant.2 ∙ rw (n, take-length c.args.order.now)

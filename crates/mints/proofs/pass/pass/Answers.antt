@@ -1,20 +1,13 @@
 -- Each turn makes one step more, and a step fills in at most one account, so the count does not overflow.
 use Rattle.mints.proofs.Passing.{one-filled, pass-next}
 use Rattle.mints.specs.Pass.{from_at, to_at, pass_to}
-use mathlib.Core.Path.{◌≡◌, refl, ◌∙◌}
-use lib.ListN.{length}
+use mathlib.Core.Path.{refl, ◌∙◌}
 use native.Mathlib.Omega.{arith}
 use Rattle.mints.proofs.pass.pass.Goals as goal
 
 pub loop-transfer-init : goal.loop-transfer-init
 unfolding pass_to
 loop-transfer-init c = (refl, omega arith, refl)
-
-pub step-added-requires : goal.step-added-requires
-step-added-requires c =
-    let turn = c.loop-transfer in
-    let p = c.requires.1 turn.transfer-index in
-    (omega (arith, turn.invariant.0, p.0), omega (arith, turn.invariant.0, p.1))
 
 pub overflow_add-added : goal.overflow_add-added
 overflow_add-added c =
@@ -31,12 +24,3 @@ loop-transfer-preserved c =
       omega (arith, q.1, one-filled l.table (from_at a.transfers.now l.transfer-index) (to_at a.transfers.now l.transfer-index)),
       rw (q.0, q.1) (pass-next a.transfers.now a.table.now l.transfer-index l.invariant.2),
     )
-
-pub shape_of-table : goal.shape_of-table
-shape_of-table c = c.loop-transfer.invariant.0
-
-pub returns : goal.returns
-returns c =
-    let l = c.loop-transfer in
-    let n : l.transfer-index ≡ length c.args.transfers.now = omega arith in
-    rw n at l.invariant.2

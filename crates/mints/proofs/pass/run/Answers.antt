@@ -16,14 +16,6 @@ pub loop-p-init : goal.loop-p-init
 unfolding passes
 loop-p-init c = (refl, omega arith, sym (simp (ne_eqb _ _ c.if-room-eq0.false)))
 
-pub pass-added-requires : goal.pass-added-requires
-pass-added-requires c =
-    let l = c.loop-p in
-    (c.requires.0, λ i. rw l.invariant.0 (c.requires.2 i))
-
-pub shape_of-table-then-added-eq0 : goal.shape_of-table-then-added-eq0
-shape_of-table-then-added-eq0 c = c.pass-added.auto.table ∙ c.loop-p.invariant.0
-
 pub returns-then-added-eq0 : goal.returns-then-added-eq0
 returns-then-added-eq0 c =
     let l = c.loop-p in
@@ -48,9 +40,6 @@ loop-p-preserved c =
       omega (arith, ap (λ (x : Noted). x.room) q, filled-bound a.transfers.now l.table (length a.transfers.now)),
       rw q at (passes-next a.transfers.now l.table l.room l.p (omega arith) (λ e. c.if-added-eq0.false (sym (ap (λ (x : Noted). x.room) q) ∙ e)) ∙ l.invariant.2),
     )
-
-pub shape_of-table : goal.shape_of-table
-shape_of-table c = c.loop-p.invariant.0
 
 pub returns : goal.returns
 returns c =

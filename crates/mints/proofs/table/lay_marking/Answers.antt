@@ -25,9 +25,6 @@ loop-i-init c =
       ends-first (with_state a.table.now 0 Ambiguous) a.ends.now refl (omega (arith, w)),
     )
 
-pub slice_bounds-key-end : goal.slice_bounds-key-end
-slice_bounds-key-end c = refl
-
 pub row_for-found-requires : goal.row_for-found-requires
 unfolding zero_key
 row_for-found-requires c =
@@ -62,12 +59,6 @@ loop-i-preserved c =
       simp length-set l.invariant.5,
       ends_more l.table key.result.now l.ends l.rows c.unwrap_or.result l.invariant.6 (omega arith) c.byte.ensures (omega (arith, l.invariant.5)) y.1 y.2,
     )
-
-pub shape_of-table : goal.shape_of-table
-shape_of-table c = simp length-set at c.loop-i.invariant.0
-
-pub shape_of-row : goal.shape_of-row
-shape_of-row c = c.loop-i.invariant.1
 
 pub returns : goal.returns
 unfolding with_state zero_key

@@ -27,12 +27,6 @@ loop-j-init c =
     let whole : take c.len-j.result ks ≡ ks = take_all c.len-j.result ks (omega (arith, c.len-j.ensures.lines)) in
     (omega arith, refl, c.requires.0.sorted, c.requires.2, rw (whole, c.len-j.ensures.lines) (ap (λ (r : Report). all ++ r) (rows_none b n) ∙ append-nil all))
 
-pub line-line-requires : goal.line-line-requires
-line-line-requires c = omega (arith, c.len-j.ensures.lines)
-
-pub new-requires : goal.new-requires
-new-requires c = record { inside = omega (arith, c.len-j.ensures.lines); sorted = c.loop-j.invariant.2 }
-
 pub overflow_mul-place : goal.overflow_mul-place
 overflow_mul-place c = omega (arith, place-most (goal.at.overflow_mul-place c).After-spot-place, c.len-j.ensures.lines)
 

@@ -53,9 +53,6 @@ returns-then-is_empty c =
 pub overflow_add-used : goal.overflow_add-used
 overflow_add-used c = omega (arith, rows_then (goal.at.overflow_add-used c).After-gather, c.len.ensures.lines, c.requires.4)
 
-pub gather-requires : goal.gather-requires
-gather-requires c = rw c.none_of-lines.ensures c.requires.2
-
 pub put_in-requires : goal.put_in-requires
 put_in-requires c =
     let a = c.args in

@@ -36,9 +36,6 @@ loop-from-init c =
       bears-less (length a.t.now / 150 - 0) (length a.t.now / 150) (rows_to a.report.now a.rows) (omega arith) p.2,
     )
 
-pub slice_bounds-walk-end : goal.slice_bounds-walk-end
-slice_bounds-walk-end c = sym c.loop-from.invariant.1
-
 pub walk-walked-requires : goal.walk-walked-requires
 walk-walked-requires c =
     let h = c.loop-from-test.true in
@@ -55,9 +52,6 @@ walk-walked-requires c =
       p.1,
     )
 
-pub slice_bounds-admit-end : goal.slice_bounds-admit-end
-slice_bounds-admit-end c = let w = c.walk-walked in sym (length-take-le w.result.waiting w.new.wait w.ensures.wait_most)
-
 pub admit-used-requires : goal.admit-used-requires
 admit-used-requires c =
     let w = c.walk-walked in
@@ -72,9 +66,6 @@ admit-used-requires c =
       omega
           (arith, ap (λ (m : Report). used m) (w.ensures.fed_later ∙ (fed-on (goal.at.admit-used-requires c).After-walk-walked).0), room-part (old (goal.at.admit-used-requires c).After-walk-walked) a.t.now w.result.to w.ensures.in_table, p.3, l.invariant.2, w.auto.report),
     )
-
-pub loop-from-smaller : goal.loop-from-smaller
-loop-from-smaller c = omega (arith, c.walk-walked.ensures.further, c.walk-walked.ensures.in_table)
 
 pub loop-from-preserved : goal.loop-from-preserved
 loop-from-preserved c =

@@ -1,5 +1,5 @@
 -- Each turn feeds one waiting transfer: `post` adds it, since the report has its lines from the start and keeps them.
-use Rattle.std.proofs.Common.{◌-◌, length, take, sym, refl, ◌∙◌, take_all, arith}
+use Rattle.std.proofs.Common.{◌-◌, length, take, sym, refl, ◌∙◌, arith}
 use Rattle.month.specs.Bytes.{rows_to}
 use Rattle.month.specs.Lookup.{transfers_at}
 use Rattle.month.proofs.Reports.{fed-nothing}
@@ -33,9 +33,3 @@ loop-i-preserved c =
     let s = posted (rows_to a.report.now a.rows) (rows_to l.report a.rows) (rows_to q.new.report a.rows) a.t.now a.wait.now l.i-index q.result
     (λ j. omega (arith, c.type_inv.t j)) c.loop-i-test.true p.1 p.2 p.4 l.invariant.1 l.invariant.2 q.ensures.0 q.ensures.1 in
     (q.auto.report ∙ l.invariant.0, s.0, s.1)
-
-pub returns : goal.returns
-returns c =
-    let l = c.loop-i in
-    let all = take_all l.i-index c.args.wait.now (omega arith) in
-    rw all at l.invariant.1

@@ -27,16 +27,6 @@ loop-i-init c =
       bears-less (length a.t.now / 150 - a.from + 0) (length a.t.now / 150 - a.from) r (omega arith) p.3,
     )
 
-pub post-requires : goal.post-requires
-post-requires c =
-    let l = c.loop-i in
-    let a = c.args in
-    let p = c.requires in (
-      omega arith,
-      record { inside = omega (arith, p.0.inside, l.invariant.3); sorted = l.invariant.6 },
-      bears-less 1 (length a.t.now / 150 - l.i + l.waiting) (rows_to l.report a.rows) (omega arith) l.invariant.7,
-    )
-
 pub loop-i-preserved : goal.loop-i-preserved
 loop-i-preserved c =
     let q = c.post in
@@ -92,11 +82,3 @@ walked c h =
       stands_after = record { inside = omega (arith, c.requires.0.inside, l.invariant.3); sorted = l.invariant.6 };
       bears_after = l.invariant.7;
     }
-
-pub returns : goal.returns
-returns c =
-    let e : c.loop-i.i ≡ length c.args.t.now / 150 = omega (arith, c.requires.1) in
-    rw e at (walked (goal.at.returns c).At-loop-i (omega (arith, c.requires.1)))
-
-pub returns-then-waiting-wait : goal.returns-then-waiting-wait
-returns-then-waiting-wait c = walked (goal.at.returns-then-waiting-wait c).At-loop-i (omega (arith, c.requires.2))

@@ -1,5 +1,5 @@
 -- What is held are the least new lines of the transfers passed, and one transfer more makes it those of one more.
-use Rattle.std.proofs.Common.{[], get_or, take, ◌∙◌, take_all, arith}
+use Rattle.std.proofs.Common.{[], get_or, take, ◌∙◌}
 use Rattle.month.specs.Report.{lines_of}
 use Rattle.month.specs.Lookup.{fed_at, transfers_at}
 use Rattle.month.proofs.Gathering.{none-gathered, one-gathered, transfers-next, place_in}
@@ -20,9 +20,3 @@ loop-i-preserved c =
     c.enter_all.ensures
     ∙ rw (l.invariant, transfers-next a.lines.now.table a.wait.now l.i-index c.loop-i-test.true)
     (picked a.lines.now.table (one-gathered 3072 old [] (transfers_at a.lines.now.table (take l.i-index a.wait.now)) (fed_at a.lines.now.table (get_or a.wait.now l.i-index 0))))
-
-pub returns : goal.returns
-returns c =
-    let l = c.loop-i in
-    let all = take_all l.i-index c.args.wait.now (omega arith) in
-    rw all at l.invariant

@@ -21,9 +21,6 @@ loop-fresh-init c =
     let a = c.args in
     (ap (λ (p : Picked). p.table) c.none_of-lines.ensures, refl, omega arith, omega arith, omega (arith, new-all a.report.now a.t.now))
 
-pub least-requires : goal.least-requires
-least-requires c = c.loop-fresh.invariant.0
-
 -- what was held this time
 lines : (c : After-len-k) → c.least.new.lines.lines ≡ take 3072 (new_above (lines_of c.args.report.now) (take c.loop-fresh.width c.loop-fresh.last) (lines_in (transfers_in c.args.t.now)))
 lines c = ap (λ (p : Picked). p.lines) c.least.ensures
@@ -45,17 +42,6 @@ returns-then-k-lt-MOST c =
     let m = held-least (lines_of a.report.now) (take l.width l.last) (lines_in (transfers_in a.t.now)) 3072 (lines (goal.at.returns-then-k-lt-MOST c).After-len-k) in
     let h : used (fed_into a.report.now (transfers_in a.t.now)) ≤ a.size = omega (arith, c.requires, c.len.ensures.rows, c.len-k.ensures.lines, r, m, l.invariant.3, l.invariant.4) in
     rw (le-ltb _ _ h)
-
-pub overflow_add-fresh : goal.overflow_add-fresh
-overflow_add-fresh c = omega (arith, c.loop-fresh.invariant.3)
-
-pub loop-fresh-smaller : goal.loop-fresh-smaller
-loop-fresh-smaller c =
-    let a = c.args in
-    let l = c.loop-fresh in
-    let r = rows-asked a.report.now a.t.now c.len.ensures.ascends in
-    let m = held-least (lines_of a.report.now) (take l.width l.last) (lines_in (transfers_in a.t.now)) 3072 (lines (goal.at.loop-fresh-smaller c).After-len-k) in
-    omega (arith, c.len-k.ensures.lines, r, m, l.invariant.4)
 
 pub loop-fresh-preserved : goal.loop-fresh-preserved
 loop-fresh-preserved c =

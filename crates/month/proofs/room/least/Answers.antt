@@ -11,9 +11,6 @@ pub loop-i-init : goal.loop-i-init
 unfolding transfers_to
 loop-i-init c = c.clear.ensures ∙ rw c.requires (picked c.args.t.now (none-gathered 3072 (lines_of c.args.report.now) c.args.bound.now))
 
-pub enter_all-requires : goal.enter_all-requires
-enter_all-requires c = rw c.loop-i.invariant (omega arith)
-
 pub loop-i-preserved : goal.loop-i-preserved
 loop-i-preserved c =
     let a = c.args in

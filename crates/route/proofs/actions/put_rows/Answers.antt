@@ -4,7 +4,7 @@ use Rattle.route.specs.Known.{Puts}
 use Rattle.route.specs.Widths.{action_width}
 use Rattle.route.specs.Actions.{action_rows}
 use Rattle.pack.specs.Sections.{section_of}
-use mathlib.Core.Path.{◌≡◌, refl, ◌∙◌}
+use mathlib.Core.Path.{refl, ◌∙◌}
 use lib.ListN.{get_or}
 use Rattle.ids.specs.declared.Id.TheVariants.{SplToken}
 use native.Mathlib.Omega.{arith}
@@ -17,13 +17,6 @@ loop-i-init c =
       refl,
       fills-none a.mints.now a.pack.now a.at.now (action_rows (section_of a.pack.now 0)) action_width a.out.now,
     )
-
-pub put_one-k-requires : goal.put_one-k-requires
-put_one-k-requires c =
-    rw (c.section-keys.ensures, c.nth-x.ensures) (omega arith, c.requires.1 c.loop-i.i (omega arith))
-
-pub overflow_add-k : goal.overflow_add-k
-overflow_add-k c = omega (arith, c.put_one-k.ensures.few)
 
 pub loop-i-preserved : goal.loop-i-preserved
 loop-i-preserved c =
@@ -38,12 +31,3 @@ loop-i-preserved c =
       put.auto.out ∙ l.invariant.1,
       (fills-more a.mints.now a.pack.now a.at.now f id action_width l.i l.k put.result a.out.now l.out _ l.invariant.2 one),
     )
-
-pub shape_of-out : goal.shape_of-out
-shape_of-out c = c.loop-i.invariant.1
-
-pub returns : goal.returns
-returns c =
-    let l = c.loop-i in
-    let e : l.i ≡ c.args.n = omega arith in
-    rw e at l.invariant.2

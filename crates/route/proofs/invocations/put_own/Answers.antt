@@ -2,8 +2,7 @@
 use Rattle.route.specs.Arrays.{own_at}
 use Rattle.route.proofs.Rows.{array-more}
 use Rattle.wire.specs.Tab.{tab}
-use mathlib.Core.Path.{◌≡◌, refl}
-use native.Mathlib.Omega.{arith}
+use mathlib.Core.Path.{refl}
 use Rattle.route.proofs.invocations.put_own.Goals as goal
 
 pub loop-i-init : goal.loop-i-init
@@ -16,9 +15,3 @@ loop-i-preserved c =
     let l = c.loop-i in
     let a = c.args in
     rw c.own_for.ensures (array-more (own_at a.reasons.now a.leg.now) l.i a.own.now l.own l.invariant)
-
-pub returns : goal.returns
-returns c =
-    let l = c.loop-i in
-    let e : l.i ≡ c.args.n = omega arith in
-    rw e at l.invariant

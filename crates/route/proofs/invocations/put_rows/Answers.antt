@@ -17,9 +17,6 @@ use mathlib.Core.Path.{◌≡◌, refl, ◌∙◌}
 use native.Mathlib.Omega.{arith}
 use Rattle.route.proofs.invocations.put_rows.Goals as goal
 
-pub put_own-requires : goal.put_own-requires
-put_own-requires c = c.requires
-
 pub loop-i-init : goal.loop-i-init
 unfolding tab placed
 loop-i-init c = (refl, refl)
@@ -43,9 +40,6 @@ loop-i-preserved c =
       placed-more invocation_width (row_at ps a.programs.now a.reasons.now a.leg.now) l.i a.out.now l.out _ l.invariant.1
           (put.ensures ∙ rw (c.bits.ensures, ← (row_by a.n _ a.places.now a.programs.now a.reasons.now a.leg.now _ _ _ _ c.requires c.put_own.ensures blocks l.i (omega arith)))),
     )
-
-pub shape_of-out : goal.shape_of-out
-shape_of-out c = c.loop-i.invariant.0
 
 pub returns : goal.returns
 returns c =

@@ -33,9 +33,6 @@ returns-then-not-trades c =
     rw (← c.requires.1) (sym c.trades.ensures ∙ c.if-not-trades.true) in
     record { few = omega arith; counted = λ table h. rw (passed_over a.names.now ks pools table v e); rows = λ table h. rw (passed_over a.names.now ks pools table v e) }
 
-pub overflow_mul-x : goal.overflow_mul-x
-overflow_mul-x c = omega (arith, c.requires.0)
-
 pub returns-in_default : goal.returns-in_default
 unfolding leg_rows placed
 returns-in_default c =

@@ -4,7 +4,7 @@ use Rattle.route.specs.Known.{Puts}
 use Rattle.route.specs.Widths.{leg_width}
 use Rattle.route.specs.Legs.{leg_rows_in}
 use Rattle.pack.specs.Sections.{section_of}
-use mathlib.Core.Path.{◌≡◌, refl, ◌∙◌}
+use mathlib.Core.Path.{refl, ◌∙◌}
 use lib.ListN.{get_or}
 use Rattle.ids.specs.declared.Id.TheVariants.{SplToken}
 use native.Mathlib.Omega.{arith}
@@ -18,16 +18,6 @@ loop-i-init c =
       fills-none a.mints.now a.pack.now a.at.now (leg_rows_in a.names.now a.pack.now) leg_width a.out.now,
       numbers-none a.mints.now a.pack.now a.at.now (leg_rows_in a.names.now a.pack.now) a.leg.now,
     )
-
-pub put_one-r-requires : goal.put_one-r-requires
-put_one-r-requires c =
-    rw (c.section-keys.ensures, c.nth-x.ensures) (omega arith, c.requires.1 c.loop-i.i (omega arith))
-
-pub number-requires : goal.number-requires
-number-requires c = (c.put_one-r.ensures.few, omega arith)
-
-pub overflow_add-k : goal.overflow_add-k
-overflow_add-k c = omega (arith, c.put_one-r.ensures.few)
 
 pub loop-i-preserved : goal.loop-i-preserved
 loop-i-preserved c =
@@ -43,12 +33,3 @@ loop-i-preserved c =
       (fills-more a.mints.now a.pack.now a.at.now f id leg_width l.i l.k put.result a.out.now l.out _ l.invariant.2 one),
       rw c.number.ensures (numbers_more a.mints.now a.pack.now a.at.now f id leg_width l.i l.k put.result a.out.now l.out _ a.leg.now l.leg l.invariant.3 l.invariant.2 one),
     )
-
-pub shape_of-out : goal.shape_of-out
-shape_of-out c = c.loop-i.invariant.1
-
-pub returns : goal.returns
-returns c =
-    let l = c.loop-i in
-    let e : l.i ≡ c.args.n = omega arith in
-    record { fills = rw e at l.invariant.2; numbers = rw e at l.invariant.3 }

@@ -1,5 +1,4 @@
 -- The rows so far are those of the invocations so far, and each candidate adds its own behind them.
-use Rattle.route.proofs.Moving.{rows-le}
 use Rattle.route.proofs.Rows.{candidate, fills-none, fills-more, array-more}
 use Rattle.route.specs.Arrays.{item_at}
 use Rattle.route.specs.Known.{Puts}
@@ -23,13 +22,6 @@ loop-i-init c =
       refl,
     )
 
-pub put_one-r-requires : goal.put_one-r-requires
-put_one-r-requires c =
-    rw (c.section-keys.ensures, c.nth-x.ensures) (omega arith, c.requires.1 c.loop-i.i (omega arith))
-
-pub overflow_add-k : goal.overflow_add-k
-overflow_add-k c = omega (arith, c.rows-k.ensures, rows-le c.put_one-r.result)
-
 pub loop-i-preserved : goal.loop-i-preserved
 loop-i-preserved c =
     let l = c.loop-i in
@@ -46,12 +38,3 @@ loop-i-preserved c =
       rw c.rows-k.ensures (fills-more a.mints.now a.pack.now a.at.now f id transfer_width l.i l.k (transfer_count put.result) a.out.now l.out _ l.invariant.2 one),
       rw told (array-more (λ i. reason_in (section_of a.pack.now 0) (item_at a.pack.now a.at.now i)) l.i a.reasons.now l.reasons l.invariant.3),
     )
-
-pub shape_of-out : goal.shape_of-out
-shape_of-out c = c.loop-i.invariant.1
-
-pub returns : goal.returns
-returns c =
-    let l = c.loop-i in
-    let e : l.i ≡ c.args.n = omega arith in
-    record { fills = rw e at l.invariant.2; reasons_after = rw e at l.invariant.3 }

@@ -1,12 +1,8 @@
 -- The line before the place found is below, the line there is not, and they ascend: that is the spot.
-use Rattle.std.proofs.Common.{[], length, sym, ap, arith}
-use Rattle.month.specs.Standing.{Picked}
+use Rattle.std.proofs.Common.{[], sym, arith}
 use Rattle.month.proofs.Noting.{held-length}
 use Rattle.month.proofs.Spots.{spot-met}
 use Rattle.month.proofs.new.Lines.spot.Goals as goal
-
-pub halved-requires : goal.halved-requires
-halved-requires c = λ i h. omega (arith, held-length c.self.invariant.0, ap (λ (p : Picked). length p.lines) c.self.view_is)
 
 pub returns : goal.returns
 returns c =

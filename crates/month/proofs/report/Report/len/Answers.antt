@@ -5,6 +5,3 @@ use Rattle.month.proofs.report.Report.len.Goals as goal
 
 pub returns-clause-rows : goal.returns-clause-rows
 returns-clause-rows c = sym (rows-length c.self.inside.bytes.now c.self.inside.rows) ∙ ap length c.self.view_is
-
-pub returns-clause-ascends : goal.returns-clause-ascends
-returns-clause-ascends c = rw (← c.self.view_is) c.self.invariant.sorted
