@@ -17,7 +17,7 @@ use Rattle.subtrees.specs.Subtrees.{within, end_of, joined, bits_in, inside_of, 
 use Rattle.subtrees.specs.Descendant.{descendant}
 use Rattle.subtrees.proofs.Arrays.{positions-length, within-at}
 use Rattle.subtrees.proofs.Transitive.{within-trans}
-use Rattle.subtrees.proofs.Blocks.{end_ge, end-le, after, jump}
+use Rattle.subtrees.proofs.Blocks.{end_ge, after, jump}
 use Rattle.subtrees.proofs.Inside.{bits_none, bits-child}
 use Rattle.finder.specs.declared.Found.{Found}
 use Rattle.finder.specs.Found.{all_positions, FoundFrom, FoundBlock}
@@ -49,10 +49,6 @@ module _ (ps : List Position) (own : List ℕ) where
   child-after at a l f =
       let w = after n (within ps) at l in
       (f.ends, omega (arith, f.ends, w.0), omega (arith, f.ends, w.1))
-
-  -- no end is beyond n
-  pub found-le : (i at : ℕ) (r : Found) → at ≤ length ps → FoundFrom ps own i at r → r.end ≤ length ps
-  found-le i at r l f = omega (arith, f.ends, end-le n (within ps) i at l)
 
   -- a child, its block, and the rest
   pub found-child : (i at : ℕ) (a b : Found) → at < length ps → within ps i at ≡ true → FoundFrom ps own at (at + 1) a → FoundFrom ps own i a.end b
@@ -93,7 +89,7 @@ module _ (ps : List Position) (own : List ℕ) where
       at : (f : ℕ → ℕ) → 0 ≡ get_or (tab f 0 (length ps)) i 0
       at f = sym (get_or-eq_default (tab f 0 n) 0 (omega (arith, tab-length f 0 n)))
 
--- and so in a list of places: a child's block ends behind the child, and nothing ends behind the last place
+-- and so in a list of places: a child's block ends behind the child, and no later than the last place
 module _ (places : List Place) (own : List ℕ) where
   pub behind : (at : ℕ) (a : Found) → at < length places → FoundFrom (all_positions places) own at (at + 1) a
       → (a.end ≡ end_of (all_positions places) at) × (at + 1 ≤ a.end) × (a.end ≤ length places)
@@ -101,9 +97,3 @@ module _ (places : List Place) (own : List ℕ) where
       let len = all-length places in
       let w = child-after (all_positions places) own at a (omega arith) f in
       (w.0, w.1, omega arith)
-
-  pub reached : (i at : ℕ) (r : Found) → at ≤ length places → FoundFrom (all_positions places) own i at r → r.end ≤ length places
-  reached i at r l f =
-      let len = all-length places in
-      let k = found-le (all_positions places) own i at r (omega arith) f in
-      omega arith

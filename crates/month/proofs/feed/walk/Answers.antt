@@ -1,16 +1,15 @@
 -- Each transfer is posted or waits; fed into what is there, those that wait give what all so far give.
-use Rattle.std.proofs.Common.{◌≡◌, suc, ◌+◌, ◌-◌, ◌*◌, ◌/◌, ◌<◌, [], ◌∷◌, length, sym, refl, ap, ◌∙◌, arith, length-set}
+use Rattle.std.proofs.Common.{◌≡◌, suc, ◌+◌, ◌-◌, ◌*◌, ◌/◌, [], ◌∷◌, length, sym, refl, ap, ◌∙◌, arith, length-set}
 use mathlib.Core.List.Memᴰ
 use Rattle.month.specs.Report.{fed_into}
 use Rattle.month.specs.Bytes.{rows_to}
 use Rattle.month.specs.Lookup.{fed_at}
-use Rattle.month.specs.Standing.{Walked}
 use Rattle.month.proofs.Reports.{fed-sorted}
 use Rattle.month.proofs.Reading.{transfer-formed}
 use Rattle.month.proofs.Bearing.{bears-less, bears-fed}
 use Rattle.month.proofs.Batches.{from-none, step-posts, step_waits, places-more}
 use Rattle.month.proofs.feed.walk.Goals as goal
-use Rattle.month.proofs.feed.walk.Goals.{At-loop-i, then-not-post, else-not-post}
+use Rattle.month.proofs.feed.walk.Goals.{then-not-post, else-not-post}
 
 pub loop-i-init : goal.loop-i-init
 loop-i-init c =
@@ -65,20 +64,3 @@ loop-i-preserved c =
                 (bears-less (suc (n - (l.i + 1) + l.waiting)) (n - l.i + l.waiting) cur (omega arith) l.invariant.7)),
           )
     ]
-
--- what the invariant says, once a transfer is passed
-walked :
-    (c : At-loop-i)
-    → c.args.from < c.loop-i.i
-    → Walked c.args.report.now c.args.t.now c.args.rows c.args.from c.loop-i.i c.loop-i.wait c.loop-i.waiting c.loop-i.report
-walked c h =
-    let l = c.loop-i in
-    record {
-      further = h;
-      in_table = omega arith;
-      wait_most = l.invariant.1;
-      wait_there = l.invariant.4;
-      fed_later = l.invariant.5;
-      stands_after = record { inside = omega (arith, c.requires.0.inside, l.invariant.3); sorted = l.invariant.6 };
-      bears_after = l.invariant.7;
-    }
