@@ -2,7 +2,7 @@
 -- Assumes nothing.
 use mathlib.Core.Path.{◌≡◌, ap, ◌∙◌}
 use mathlib.Core.List.{List, []}
-use Prim.Native.Nat.{ℕ, zero, suc, ◌+◌, ◌*◌, ◌<◌}
+use Prim.Native.Nat.{ℕ, zero, suc, ◌*◌, ◌<◌}
 use native.Mathlib.Nat.{zero-mul}
 use native.Mathlib.Omega.{arith}
 use lib.ListN.{get_or, take, drop}
@@ -18,7 +18,3 @@ chunk-at n (suc k) s (suc i) d h = chunk-at n k (drop n s) i d (omega arith) ∙
 -- a chunk among those that were cut
 pub chunk-in : (n k : ℕ) (s : List ℕ) (chunks : List (List ℕ)) (i : ℕ) → chunks ≡ first_chunks n k s → i < k → get_or chunks i [] ≡ take n (drop (i * n) s)
 chunk-in n k s chunks i e h = ap (λ (c : List (List ℕ)). get_or c i []) e ∙ chunk-at n k s i [] h
-
--- and where they were cut from behind f elements
-pub chunk-behind : (n k f : ℕ) (s : List ℕ) (chunks : List (List ℕ)) (i : ℕ) → chunks ≡ first_chunks n k (drop f s) → i < k → get_or chunks i [] ≡ take n (drop (f + i * n) s)
-chunk-behind n k f s chunks i e h = chunk-in n k (drop f s) chunks i e h ∙ ap (take n) (drop-drop (i * n) f s)

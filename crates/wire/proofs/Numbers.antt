@@ -11,9 +11,9 @@ use mathlib.Core.Logic.{by_cases}
 use native.Mathlib.Decide.{dec_lt}
 use Rattle.std.proofs.lemmas.Nat.{be_bytes_8}
 use Rattle.std.proofs.lemmas.List.{get_or-take, get_or-drop}
-use Rattle.std.specs.Int.{w64, byte_worth, bytes_low_first, from_be_bytes, from_le_bytes, to_be_bytes, sum_through}
+use Rattle.std.specs.Int.{w64, byte_worth, bytes_low_first, from_be_bytes, to_be_bytes, sum_through}
 use Rattle.wire.specs.Le.{le, le_bytes, swapped, Bytes}
-use Rattle.wire.proofs.Laws.{le-back, le_same}
+use Rattle.wire.proofs.Laws.{le-back}
 use Rattle.wire.proofs.Word.{swapped-eight}
 
 -- n + 1 bytes, each by its weight
@@ -45,11 +45,6 @@ le-lt (suc n) s at h =
     let top : get_or s (at + n) 0 < 256 = h n (omega arith) in
     let low = le-lt n s at (λ k l. h k (omega arith)) in
     rw (pow-suc 256 n) (omega (arith, mul-le-mul_left (256 ^ n) top))
-
--- the numbers of eight bytes tell them apart, the first byte being the lowest or the greatest
-pub same-low : (a b : List ℕ) (i : ℕ) → Bytes a i 8 → Bytes b i 8 → i + 8 ≤ length a → i + 8 ≤ length b → from_le_bytes w64 (take 8 (drop i a)) ≡ from_le_bytes w64 (take 8 (drop i b)) → take 8 (drop i a) ≡ take 8 (drop i b)
-same-low a b i h g la lb e =
-    le_same 8 a b i h g la lb (sym (worth-le 7 (take 8 (drop i a)) a i (part-at 8 a i)) ∙ (e ∙ worth-le 7 (take 8 (drop i b)) b i (part-at 8 b i)))
 
 -- eight bytes with the first as the greatest are the number of these bytes swapped
 pub high-le : (s : List ℕ) (at : ℕ) → Bytes s at 8 → at + 8 ≤ length s → from_be_bytes w64 (take 8 (drop at s)) ≡ swapped 8 (le 8 s at)

@@ -2,22 +2,18 @@
 -- begin with counts for nothing.
 -- Assumes nothing.
 use mathlib.Core.Path.{◌≡◌, refl, sym, ◌∙◌, ap₂, subst}
-use mathlib.Core.Logic.{◌≢◌}
+use mathlib.Core.Logic.{◌≢◌, by_cases}
 use mathlib.Core.Bool.{true, false, ◌&&◌, ◌||◌, false≢true, or-true, and-false}
 use mathlib.Core.List.{List, [], ◌∷◌, ◌++◌, List-discrete}
-use Prim.Native.Nat.{ℕ, ◌+◌, ◌<◌}
+use Prim.Native.Nat.{ℕ, ◌+◌, ◌≤◌, ◌<◌}
 use native.Mathlib.Nat.{lt_irrefl, lt_trans}
 use native.Mathlib.Numerals.{add-one}
 use native.Mathlib.Decide.{ℕ_discrete, dec_lt}
 use native.Mathlib.Omega.{arith}
 use lib.Dec.{eqb, ltb}
-use lib.ListN.{length, get_or, take, drop, take-append-drop}
+use lib.ListN.{length, get_or, take, drop, take-append-drop, drop_of_length-le}
 use lib.Seq.{drop-cons, drop-drop}
 use borrow.Author.Tests.{eq-eqb, ne_eqb, lt-ltb, le-ltb}
-use Rattle.std.specs.Ordering.{is_lt, nat_cmp}
-use Rattle.std.specs.Cmp.Lexicographic.{slice_cmp}
-use Rattle.std.proofs.lemmas.Cmp.{same_from_slice_cmp}
-use Rattle.std.proofs.lemmas.Bool.Decides.{nat_tests}
 use Rattle.wire.specs.Order.{Below, here, lt_key, next, shorter}
 
 -- the decision that proofs go by cases on
@@ -109,6 +105,19 @@ pub less-step : (a b : List ℕ) (i : ℕ) → i < length a → i < length b
 unfolding lt_key
 less-step a b i p q = rw (drop-cons a i 0 p, drop-cons b i 0 q, add-one i)
 
+-- a run that is used up stands before all but one that is used up too
+pub less-end : (a b : List ℕ) (i : ℕ) → i ≤ length a → (length a < length b → length a ≤ i) → (length b ≤ length a → length b ≤ i)
+    → lt_key (drop i a) (drop i b) ≡ ltb (length a) (length b)
+unfolding lt_key
+less-end a b i h p q =
+    by_cases (dec_lt (length a) (length b))
+    (λ l. rw (lt-ltb _ _ l, drop_of_length-le a {i = i} (p l), drop-cons b i 0 (omega arith)))
+    (λ n. rw (le-ltb (length a) (length b) (omega arith), drop_of_length-le b {i = i} (q (omega arith))) (go (drop i a)))
+  where
+    go : (x : List ℕ) → lt_key x [] ≡ false
+    go [] = refl
+    go (x ∷ s) = refl
+
 -- what both begin with decides nothing
 less-prefix : (w x y : List ℕ) → lt_key (w ++ x) (w ++ y) ≡ lt_key x y
 unfolding lt_key
@@ -121,8 +130,3 @@ less-pass n a b i e =
     let p : drop i a ≡ take n (drop i b) ++ drop (i + n) a = rw (← e, ← drop-drop n i a) (sym (take-append-drop n (drop i a))) in
     let q : drop i b ≡ take n (drop i b) ++ drop (i + n) b = rw (← drop-drop n i b) (sym (take-append-drop n (drop i b))) in
     sym (ap₂ lt_key p q ∙ less-prefix (take n (drop i b)) (drop (i + n) a) (drop (i + n) b))
-
--- the slices' own order is the same
-pub less-cmp : (a b : List ℕ) → is_lt (slice_cmp nat_cmp a b) ≡ lt_key a b
-unfolding lt_key
-less-cmp a b = same_from_slice_cmp nat_cmp is_lt lt_key refl (λ y ys. refl) (λ x xs. refl) (λ x y xs ys o e. grind (arith, nat_tests)) a b _ refl

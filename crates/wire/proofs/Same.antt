@@ -9,7 +9,6 @@ use Prim.Native.Nat.{ℕ, ◌+◌}
 use borrow.Author.Tests.{eq-eqb, eqb-true}
 use lib.Dec.{eqb}
 use lib.ListN.{length, get_or, take, drop, length-append}
-use lib.Pointwise.{pointwise}
 use lib.Seq.{take-add}
 use Rattle.wire.proofs.Below.{and_left, and_right}
 use Rattle.wire.specs.Same.{same}
@@ -58,11 +57,3 @@ same-before (x ∷ a) (y ∷ b) s = ap (λ (t : Bool). eqb x y && t) (same-befor
 -- runs whose n bytes from i on are equal
 pub same_step : (a b : List ℕ) (i n : ℕ) → take n (drop i a) ≡ take n (drop i b) → same (take i a) (take i b) ≡ same (take (i + n) a) (take (i + n) b)
 same_step a b i n e = rw (take-add i n a, take-add i n b, e) (sym (same-before (take i a) (take i b) (take n (drop i b))))
-
--- the slices' own test is the same
-pub same-pointwise : (a b : List ℕ) → pointwise eqb a b ≡ same a b
-unfolding same
-same-pointwise [] [] = refl
-same-pointwise [] (y ∷ b) = refl
-same-pointwise (x ∷ a) [] = refl
-same-pointwise (x ∷ a) (y ∷ b) = ap (λ (t : Bool). eqb x y && t) (same-pointwise a b)

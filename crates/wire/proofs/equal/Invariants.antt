@@ -1,10 +1,13 @@
--- What is compared already is the same in both, so what lies before it decides.
+-- The bytes from i on are equal in both, so those before them decide.
 -- Assumes nothing.
 use mathlib.Core.Path.{◌≡◌}
-use Prim.Native.Nat.{◌+◌, ◌*◌}
+use Prim.Native.Nat.{◌≤◌}
 use lib.ListN.{length, take}
 use Rattle.wire.specs.Same.{same}
 use Rattle.wire.proofs.equal.Given as goal
 
 abbrev pub invariant-loop-i : goal.invariant-loop-i
-invariant-loop-i l = let n = length l.front_a + l.i * 8 in same (take n l.a) (take n l.b) ≡ same l.a l.b
+invariant-loop-i l = (l.i ≤ length l.a) × (same (take l.i l.a) (take l.i l.b) ≡ same l.a l.b)
+
+abbrev pub decreases-loop-i : goal.decreases-loop-i
+decreases-loop-i l = l.i

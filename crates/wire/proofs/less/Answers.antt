@@ -5,14 +5,13 @@ use mathlib.Core.Path.{◌≡◌, sym, ap, ap₂, ◌∙◌}
 use Prim.Native.Nat.{◌+◌, ◌-◌, ◌*◌, ◌/◌}
 use lib.ListN.{length, take, drop, length-drop}
 use lib.Seq.{take-length}
-use Rattle.std.specs.Ordering.{is_lt}
 use Rattle.wire.specs.Order.{lt_key}
 use Rattle.std.specs.Int.{w64, from_be_bytes}
 use Rattle.wire.specs.Le.{swapped, Bytes}
 use Rattle.wire.proofs.Chunks.{chunk-in}
 use Rattle.wire.proofs.Numbers.{high-le, same-high, le-lt}
 use Rattle.wire.proofs.Word.{less-word}
-use Rattle.wire.proofs.Order.{less-pass, less-cmp}
+use Rattle.wire.proofs.Order.{less-pass}
 use Rattle.wire.proofs.less.Goals as goal
 
 pub returns-then-x-y : goal.returns-then-x-y
@@ -55,4 +54,4 @@ returns c =
     let at : n ≡ c.loop-i.i * 8 = omega (arith, c.min.ensures, c.min-i-end.ensures) in
     let ra : take (length a - n) (drop n a) ≡ drop (c.loop-i.i * 8) a = rw at (rw (← length-drop) (take-length _)) in
     let rb : take (length b - n) (drop n b) ≡ drop (c.loop-i.i * 8) b = rw at (rw (← length-drop) (take-length _)) in
-    c.is_lt.ensures ∙ ap is_lt c.cmp.ensures ∙ less-cmp _ _ ∙ ap₂ lt_key ra rb ∙ c.loop-i.invariant
+    c.less_end.ensures ∙ ap₂ lt_key ra rb ∙ c.loop-i.invariant

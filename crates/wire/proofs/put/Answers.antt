@@ -20,5 +20,5 @@ pub returns-else-s-room : goal.returns-else-s-room
 returns-else-s-room c =
     let a = c.args in
     let room = length a.d.now - a.at in
-    rw c.lay-else-s-room.ensures
+    rw c.lay_part.ensures
     (sets-part a.d.now (take room a.s.now) a.at room (sym (length-take-le room a.s.now (omega arith))) (omega arith) ∙ sets-cut a.d.now a.at a.s.now room (omega arith) (omega arith))
