@@ -1,6 +1,6 @@
 // Reading back an instruction that stands at an offset of a pack: what these three answer is `instruction_at` of that offset.
 //
-// Total, as the readers of `wire` are: past the end of the pack there are zeros and no bytes.
+// Total, as the readers of `wire` are: past the end of the pack there are zeros and no bytes. Whether a header is there is tested once.
 ghost use Rattle.std.specs.Prelude.{◌≡◌, take, drop};
 ghost use Rattle.pack.specs.Invocation.{instruction_at};
 
@@ -30,7 +30,10 @@ pub fn accounts(pack: &[u8], at: usize) -> &[u8]
     ensures { result.now ≡ (instruction_at pack.now at).accounts }
 {
     let item = rest(pack, at);
-    first(rest(item, 8), wire::u16_at(item, 4) as usize)
+    if item.len() < 8 {
+        return &[];
+    }
+    first(&item[8..], super::two(item, 4) as usize)
 }
 
 // The instruction's data.
@@ -38,6 +41,9 @@ pub fn data(pack: &[u8], at: usize) -> &[u8]
     ensures { result.now ≡ (instruction_at pack.now at).bytes }
 {
     let item = rest(pack, at);
-    let from = 8 + wire::u16_at(item, 4) as usize;
-    first(rest(item, from), wire::u16_at(item, 6) as usize)
+    if item.len() < 8 {
+        return &[];
+    }
+    let from = 8 + super::two(item, 4) as usize;
+    first(rest(item, from), super::two(item, 6) as usize)
 }
