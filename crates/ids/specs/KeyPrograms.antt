@@ -18,3 +18,11 @@ key_programs ks = tab (program_at ks) 0 256
 -- the program at an index, by the list that is kept
 unfoldable pub program_in : List Id → ℕ → Id
 program_in programs index = cond (ltb index 256) (get_or programs index Unresolved) Unresolved
+
+-- the numbers of the first 256 keys, for who keeps a program as a byte
+unfoldable pub program_numbers : List ℕ → List ℕ
+program_numbers ks = tab (program_number_at ks) 0 256
+
+-- the number at an index, by the numbers that are kept
+unfoldable pub number_in : List ℕ → ℕ → ℕ
+number_in numbers index = cond (ltb index 256) (get_or numbers index 0) 16

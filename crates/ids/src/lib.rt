@@ -118,29 +118,62 @@ pub fn is_wrapped_sol(mint: &[u8]) -> bool
     is_row(2, mint)
 }
 
-// The one program that a key can be, by its fifth byte: System where that is zero, since no id has a zero there, and another where it is in no row.
-#[tactic(auto, unfolding(crate::specs::Which::row_by_fifth, crate::specs::Which::of_number, crate::specs::Ids::ids))]
+// The case of a number: of a row of the table, or of what stands past it. A number is how an id is kept in a byte.
+#[tactic(auto, unfolding(crate::specs::Which::of_number))]
+pub fn of_number(n: u8) -> Id
+    ensures { result ≡ of_number n }
+{
+    match n {
+        0 => Id::SplToken,
+        1 => Id::Token2022,
+        2 => Id::WrappedSol,
+        3 => Id::ComputeBudget,
+        4 => Id::AssociatedToken,
+        5 => Id::Memo,
+        6 => Id::PumpFun,
+        7 => Id::LaunchLab,
+        8 => Id::PumpSwap,
+        9 => Id::Clmm,
+        10 => Id::Cpmm,
+        11 => Id::AmmV4,
+        12 => Id::Orca,
+        13 => Id::Dlmm,
+        14 => Id::System,
+        15 => Id::Other,
+        _ => Id::Unresolved,
+    }
+}
+
+// The one row that a key can be, by its fifth byte; 14 where that is zero, since no id has a zero there, and 15 where it is in no row.
+#[tactic(auto, unfolding(crate::specs::Which::row_by_fifth, crate::specs::Ids::ids))]
+fn row_by_fifth(fifth: u8) -> u8
+    ensures { result ≡ row_by_fifth fifth 14 0 }
+{
+    match fifth {
+        0xd7 => 0,
+        0xee => 1,
+        0xfe => 2,
+        0xe5 => 3,
+        0x4e => 4,
+        0x99 => 5,
+        0x93 => 6,
+        0x4d => 7,
+        0x82 => 8,
+        0x04 => 9,
+        0x4f => 10,
+        0x36 => 11,
+        0x8e => 12,
+        0xbc => 13,
+        0x00 => 14,
+        _ => 15,
+    }
+}
+
+// The one program that a key can be.
 fn candidate(fifth: u8) -> Id
     ensures { result ≡ of_number (row_by_fifth fifth 14 0) }
 {
-    match fifth {
-        0xd7 => Id::SplToken,
-        0xee => Id::Token2022,
-        0xfe => Id::WrappedSol,
-        0xe5 => Id::ComputeBudget,
-        0x4e => Id::AssociatedToken,
-        0x99 => Id::Memo,
-        0x93 => Id::PumpFun,
-        0x4d => Id::LaunchLab,
-        0x82 => Id::PumpSwap,
-        0x04 => Id::Clmm,
-        0x4f => Id::Cpmm,
-        0x36 => Id::AmmV4,
-        0x8e => Id::Orca,
-        0xbc => Id::Dlmm,
-        0x00 => Id::System,
-        _ => Id::Other,
-    }
+    of_number(row_by_fifth(fifth))
 }
 
 // Which program a key is: the one that it can be, or another.

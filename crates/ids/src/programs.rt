@@ -2,7 +2,7 @@
 ghost use Rattle.std.specs.Prelude.{◌≡◌, ◌<◌};
 ghost use Rattle.ids.specs.Keys.{key_count};
 ghost use Rattle.ids.specs.Which.{program_at};
-ghost use Rattle.ids.specs.KeyPrograms.{key_programs, program_in};
+ghost use Rattle.ids.specs.KeyPrograms.{key_programs, program_in, number_in};
 
 use crate::Id;
 
@@ -35,5 +35,16 @@ pub fn fill(keys: &[u8], programs: &mut [Id; 256])
 pub fn program(programs: &[Id; 256], index: usize) -> Id
     ensures { result ≡ program_in programs.now index }
 {
-    programs.get(index).copied().unwrap_or(Id::Unresolved)
+    if 256 <= index {
+        return Id::Unresolved;
+    }
+    programs[index]
+}
+
+// The number at row `index` of a list of 256 such numbers, for who keeps the programs as bytes; past the 256th it is that of a program which is not resolved.
+#[tactic(auto, unfolding(crate::specs::KeyPrograms::number_in))]
+pub fn number(numbers: &[u8; 256], index: usize) -> u8
+    ensures { result ≡ number_in numbers.now index }
+{
+    numbers.get(index).copied().unwrap_or(16)
 }
