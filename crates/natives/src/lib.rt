@@ -114,9 +114,8 @@ pub fn settle(asked: Option<Native>, keys: &[u8], accounts: &[u8], mint: &[u8]) 
     }
     // Every account index is that of a key, the unused ones too.
     let count = ids::key_count(keys);
-    accounts
-        .iter()
-        .all(|index| usize::from(*index) < count)
+    (0..accounts.len())
+        .all(|i| usize::from(wire::byte(accounts, i)) < count)
         .then_some(native)
 }
 
