@@ -65,9 +65,10 @@ fn conclude(
         (λ _. (concluded keys.now balances.now pack.now at.now).passes ≡ none) }
     ensures programs_after { programs.new ≡ sets programs.old 0 (programs_of keys.now pack.now at.now) }
 {
+    // Before the first call: an array that is declared behind one is cleared there, and at entry too.
+    let mut transfers = [Transfer::NONE; 1024];
     let rows = table::lay(keys, table, row);
     let recorded = notes::note_balances(balances, row, table);
-    let mut transfers = [Transfer::NONE; 1024];
     let g = notes::gather(keys, pack, at, row, table, &mut transfers, programs);
     let ran = doubt::hand_on(table, rows, &transfers[..g.count], recorded + g.room)?;
     Ok(Concluded {

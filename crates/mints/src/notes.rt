@@ -17,7 +17,11 @@ use token::Token;
 pub(crate) fn row_of(row: &[u32], index: usize) -> usize
     ensures { result ≡ get_or row.now index 0 }
 {
-    row.get(index).map_or(0, |r| *r as usize)
+    if index < row.len() {
+        row[index] as usize
+    } else {
+        0
+    }
 }
 
 // Whether a mint is the zero key, which is none.
@@ -36,7 +40,7 @@ pub(crate) fn note(table: &mut [Row], r: usize, mint: &[u8]) -> usize
 {
     match table[r].state {
         State::Unknown if !is_zero(mint) => {
-            table[r].mint.copy_from_slice(mint);
+            wire::put(&mut table[r].mint, 0, mint);
             table[r].state = State::Recorded;
             1
         }

@@ -28,12 +28,14 @@ fn spot(table: &[Row], order: &[u32], r: usize) -> usize
     low
 }
 
-// Puts r in at place j of the first k.
+// Puts r in at place j of the first k. The last one moves first, so each is read before it is written over.
 fn insert(order: &mut [u32], j: usize, k: usize, r: u32)
     requires { (j ≤ k) × (k < length order.old) }
     ensures { take (suc k) order.new ≡ put_in (take k order.old) j r }
 {
-    order.copy_within(j..k, j + 1);
+    for i in (j..k).rev() {
+        order[i + 1] = order[i];
+    }
     order[j] = r;
 }
 

@@ -20,7 +20,8 @@ impl Transfer {
     pub(crate) const NONE: Transfer = Transfer { from: 0, to: 0 };
 }
 
-// Copies the mint of row a to row b, which is then filled in.
+// Copies the mint of row a to row b, which is then filled in. Out of line, so that a step that hands nothing on makes no row's address.
+#[inline(never)]
 #[tactic(auto, unfolding(crate::specs::Cells::with_mint))]
 fn hand(table: &mut [Row], a: usize, b: usize)
     requires { (a < length table.old) × (b < length table.old) }
@@ -37,6 +38,7 @@ fn step(table: &mut [Row], a: usize, b: usize) -> usize
     ensures { (table.new ≡ step_at table.old a b) × (result ≡ filled_at table.old a b) }
 {
     match (table[a].state, table[b].state) {
+        (State::Unknown, State::Unknown) => 0,
         (State::Unknown, y) if y.has_mint() => {
             hand(table, b, a);
             1

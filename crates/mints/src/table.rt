@@ -15,16 +15,20 @@ fn find(table: &[Row], key: &[u8]) -> Option<usize>
     requires { length key.now ≡ 32 }
     ensures { result ≡ found_row table.now key.now }
 {
-    'rows: for i in 0..table.len() {
+    let mut i = 0;
+    'rows: loop {
+        if table.len() <= i {
+            break 'rows None;
+        }
         let account = table[i].account();
         for j in 0..32 {
             if account[31 - j] != key[31 - j] {
+                i += 1;
                 continue 'rows;
             }
         }
-        return Some(i);
+        break 'rows Some(i);
     }
-    None
 }
 
 // The same where `ends` tells which last bytes the rows' accounts have: a key with another one is new, and most new keys are found so without a search.
@@ -48,7 +52,7 @@ fn add(table: &mut [Row], rows: usize, found: Option<usize>, key: &[u8]) -> usiz
     if found.is_some() {
         return rows;
     }
-    table[rows].account.copy_from_slice(key);
+    wire::put(&mut table[rows].account, 0, key);
     rows + 1
 }
 

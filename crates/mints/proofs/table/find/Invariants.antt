@@ -6,7 +6,10 @@ use mathlib.Core.Path.{◌≡◌}
 use Rattle.mints.proofs.table.find.Given as goal
 
 abbrev pub invariant-loop-j : goal.invariant-loop-j
-invariant-loop-j l = (m : ℕ) → 32 - l.j ≤ m → m < 32 → get_or l.account m 0 ≡ get_or l.key m 0
+invariant-loop-j l = (l.i ≡ l.initial.i) × ((m : ℕ) → 32 - l.j ≤ m → m < 32 → get_or l.account m 0 ≡ get_or l.key m 0)
 
 abbrev pub invariant-rows : goal.invariant-rows
-invariant-rows l = first_row_from l.table l.key (length l.table - l.i) l.i ≡ first_row_from l.table l.key (length l.table) 0
+invariant-rows l = (l.i ≤ length l.table) × (first_row_from l.table l.key (length l.table - l.i) l.i ≡ first_row_from l.table l.key (length l.table) 0)
+
+abbrev pub decreases-rows : goal.decreases-rows
+decreases-rows l = length l.table - l.i
