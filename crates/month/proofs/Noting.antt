@@ -1,6 +1,6 @@
 -- Lines held by their numbers: a number put in at the place of its line holds the line in its place, and what is behind the last that can be held goes.
 -- Assumes nothing.
-use Rattle.std.proofs.Common.{◌≡◌, ℕ, zero, suc, ◌+◌, ◌-◌, ◌*◌, ◌/◌, ◌<◌, ◌≤◌, min, true, false, ◌⊎◌, List, [], ◌∷◌, ◌++◌, map, length, get_or, take, drop, set, sym, refl, ap, ◌∙◌, ap₂, inl, inr, ⊎_elim, le_of_suc-le-suc, not-suc-le-zero, add-one, arith, length-append, length-drop, length-take, length-take-le, take_all, get_or-take, take-take, take_at, le-ltb}
+use Rattle.std.proofs.Common.{◌≡◌, ℕ, zero, suc, ◌+◌, ◌-◌, ◌*◌, ◌/◌, ◌<◌, ◌≤◌, min, true, false, ◌⊎◌, List, [], ◌∷◌, ◌++◌, map, length, get_or, take, drop, set, sym, refl, ap, ◌∙◌, ap₂, inl, inr, ⊎_elim, le_of_suc-le-suc, not-suc-le-zero, add-one, arith, length-append, length-drop, length-take, length-take-le, take_all, drop-cons, get_or-take, take-take, take_at, le-ltb}
 use native.Mathlib.Decide.{dec_lt}
 use mathlib.Core.Logic.{by_cases, ⊎_map}
 use mathlib.Core.Bool.{and-false}
@@ -8,7 +8,7 @@ use mathlib.Core.List.Memᴰ
 use mathlib.Core.List.{Memᴰ}
 use lib.ListN.{length-map}
 use lib.Seq.{sets, sets-eq, take-append-add}
-use Rattle.wire.proofs.Sets.{sets-front}
+use Rattle.wire.proofs.Sets.{sets-before, sets-front}
 use Rattle.wire.specs.Order.{lt_key}
 use Rattle.wire.specs.Ascending.{Ascending, asc_nil}
 use Rattle.wire.proofs.Ascending.{put-mem}
@@ -21,7 +21,17 @@ use Rattle.month.proofs.Views.{mem-at, drop-take}
 use Rattle.month.proofs.Least.{mem-take, take-ascends, enter-ascends}
 use Rattle.month.proofs.Spots.{spot-most, among-spot, enter-spot, enter-there}
 
--- one put in where others made room
+-- elements moved up by one, the last ones first
+pub move-more : (o : List ℕ) (k i : ℕ) → 0 < i → i ≤ k → k < length o
+    → set (sets o (i + 1) (take (k - i) (drop i o))) (i - 1 + 1) (get_or (sets o (i + 1) (take (k - i) (drop i o))) (i - 1) 0) ≡ sets o (i - 1 + 1) (take (k - (i - 1)) (drop (i - 1) o))
+move-more o k i h p q =
+    let e : i - 1 + 1 ≡ i = omega arith in
+    let f : k - (i - 1) ≡ suc (k - i) = omega arith in
+    let g : suc (i - 1) ≡ i = omega arith in
+    rw (e, f, sets-before o (i + 1) (take (k - i) (drop i o)) (i - 1) (omega arith), drop-cons o (i - 1) 0 (omega arith), g)
+    (sets-front o (i + 1) i (take (k - i) (drop i o)) (get_or o (i - 1) 0) (omega arith))
+
+-- one put in where they made room
 pub moved : (o : List ℕ) (j k n : ℕ) → j ≤ k → k < length o
     → take (suc k) (set (sets o (j + 1) (take (k - j) (drop j o))) j n) ≡ take j o ++ (n ∷ take (k - j) (drop j o))
 moved o j k n h q =

@@ -14,6 +14,22 @@ use crate::new::Lines;
 use crate::report::Report;
 use crate::{LINE, ROW};
 
+// Moves the bytes between two places up, the last ones first and by eight, so that none is written over before it is read.
+fn shift(d: &mut [u8], from: usize, to: usize, by: usize)
+    requires { (from ≤ to) × (to + by ≤ length d.old) }
+    ensures { d.new ≡ sets d.old (from + by) (take (to - from) (drop from d.old)) }
+{
+    let mut i = to;
+    while 8 <= i - from {
+        i -= 8;
+        let word = wire::u64_at(d, i);
+        wire::put_u64(d, i + by, word);
+    }
+    for k in (from..i).rev() {
+        d[k + by] = d[k];
+    }
+}
+
 // Writes a row with a line and no sums.
 fn put_row(report: &mut [u8], at: usize, line: &[u8])
     requires { (at + 118 ≤ length report.old) × (length line.now ≡ 66) }
@@ -33,7 +49,7 @@ pub(crate) fn put_in(report: &mut [u8], rows: usize, lines: &Lines<'_>)
     for j in (0..lines.len()).rev() {
         let line = lines.line(j);
         let place = Report::new(report, i).spot(&line);
-        report.copy_within(place * ROW..i * ROW, (place + j + 1) * ROW);
+        shift(report, place * ROW, i * ROW, (j + 1) * ROW);
         put_row(report, (place + j) * ROW, &line);
         i = place;
     }

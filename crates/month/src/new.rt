@@ -36,12 +36,14 @@ impl<'t> Model for Lines<'t> {
     ghost invariant = { λ s. Held s.table.now s.numbers s.count × (length s.numbers ≡ 3072) };
 }
 
-// Puts n in at place j of the first k.
+// Puts n in at place j of the first k. The last one moves first, so each is read before it is written over.
 fn insert(numbers: &mut [usize], j: usize, k: usize, n: usize)
     requires { (j ≤ k) × (k < length numbers.old) }
     ensures { take (suc k) numbers.new ≡ take j numbers.old ++ (n ∷ slice_range numbers.old j k) }
 {
-    numbers.copy_within(j..k, j + 1);
+    for i in (j..k).rev() {
+        numbers[i + 1] = numbers[i];
+    }
     numbers[j] = n;
 }
 

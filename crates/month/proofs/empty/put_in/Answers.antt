@@ -7,7 +7,6 @@ use Rattle.month.specs.Bytes.{rows_to}
 use Rattle.month.specs.Lookup.{spot_of, empty_rows}
 use Rattle.month.proofs.Views.{lines-length, rows-part}
 use Rattle.month.proofs.Spots.{spot-most}
-use Rattle.month.proofs.Moves.{copied}
 use Rattle.month.proofs.Merging.{put_in, front-sorted, front-among, rows_before, put_step, rows_none, rows_whole, lines_next, lines-below, line-held}
 use Rattle.month.proofs.empty.put_in.Goals as goal
 use Rattle.month.proofs.empty.put_in.Goals.{After-spot-place}
@@ -33,26 +32,16 @@ overflow_mul-place c = omega (arith, place-most (goal.at.overflow_mul-place c).A
 pub overflow_add-place : goal.overflow_add-place
 overflow_add-place c = omega (arith, place-most (goal.at.overflow_add-place c).After-spot-place, c.len-j.ensures.lines)
 
-pub overflow_add-place-in-loop-j : goal.overflow_add-place-in-loop-j
-overflow_add-place-in-loop-j c = omega (arith, place-most (goal.at.overflow_add-place-in-loop-j c).After-spot-place, c.len-j.ensures.lines)
-
 pub overflow_mul-place-in-loop-j : goal.overflow_mul-place-in-loop-j
 overflow_mul-place-in-loop-j c = omega (arith, place-most (goal.at.overflow_mul-place-in-loop-j c).After-spot-place, c.len-j.ensures.lines)
 
-pub copy_within-requires-clause-start_le_end : goal.copy_within-requires-clause-start_le_end
-copy_within-requires-clause-start_le_end c = omega (arith, place-most (goal.at.copy_within-requires-clause-start_le_end c).After-spot-place, c.len-j.ensures.lines)
-
-pub copy_within-requires-clause-dest_in_bounds : goal.copy_within-requires-clause-dest_in_bounds
-copy_within-requires-clause-dest_in_bounds c = omega (arith, place-most (goal.at.copy_within-requires-clause-dest_in_bounds c).After-spot-place, c.len-j.ensures.lines)
-
-pub overflow_add-place-in-loop-j-2 : goal.overflow_add-place-in-loop-j-2
-overflow_add-place-in-loop-j-2 c = omega (arith, place-most (goal.at.overflow_add-place-in-loop-j-2 c).After-spot-place, c.len-j.ensures.lines)
-
-pub overflow_mul-place-in-loop-j-2 : goal.overflow_mul-place-in-loop-j-2
-overflow_mul-place-in-loop-j-2 c = omega (arith, place-most (goal.at.overflow_mul-place-in-loop-j-2 c).After-spot-place, c.len-j.ensures.lines)
+pub shift-requires : goal.shift-requires
+shift-requires c =
+    let most = place-most (goal.at.shift-requires c).After-spot-place in
+    (omega arith, omega (arith, c.len-j.ensures.lines))
 
 pub put_row-requires : goal.put_row-requires
-put_row-requires c = (omega (arith, place-most (goal.at.put_row-requires c).After-spot-place, c.len-j.ensures.lines, c.copy_within.ensures.len), c.line-line.ensures.bytes)
+put_row-requires c = (omega (arith, place-most (goal.at.put_row-requires c).After-spot-place, c.len-j.ensures.lines, c.shift.auto.d), c.line-line.ensures.bytes)
 
 pub loop-j-preserved : goal.loop-j-preserved
 loop-j-preserved c =
@@ -70,16 +59,15 @@ loop-j-preserved c =
     let inside : l.j ≤ length ks = omega (arith, c.len-j.ensures.lines) in
     let room : n * 118 ≤ length b = omega arith in
     let seat : p ≡ spot_of line (lines_of (rows_to b l.i)) = rw (← c.new.ensures) c.spot-place.ensures in
-    let up : (p + j + 1) * 118 ≡ p * 118 + l.j * 118 = omega arith in
     let out : c.put_row.new.report ≡ put_in b p l.i l.j j line =
-    c.put_row.ensures ∙ rw (c.copy_within.ensures.after, copied b (p * 118) (l.i * 118) ((p + j + 1) * 118) (omega arith) (omega arith) (omega arith), up) in
+    c.put_row.ensures ∙ rw (c.shift.ensures, step) in
     let before : rows_to c.put_row.new.report p ≡ take p (rows_to b l.i) =
     rw out (rows_before b p l.i l.j j n line most step (omega arith) room wide ∙ sym (rows-part b l.i p most)) in
     let whole =
     put_step b p l.i l.j j n line most step (omega arith) room wide l.invariant.2 (l.invariant.3 line (rw this (line-held c.len-j.ensures.ascend l.j j step inside))) seat
     (take j ks) (rw this (lines-below c.len-j.ensures.ascend l.j j step inside)) in (
       omega arith,
-      c.put_row.auto.report ∙ c.copy_within.ensures.len ∙ l.invariant.1,
+      c.put_row.auto.report ∙ c.shift.auto.d ∙ l.invariant.1,
       rw before (front-sorted p l.invariant.2),
       λ x i. rw before (front-among x p (rows_to b l.i) (l.invariant.3 x i)),
       rw (out, whole, this, ← lines_next c.len-j.ensures.ascend l.j j step inside) l.invariant.4,
