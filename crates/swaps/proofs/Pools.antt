@@ -1,12 +1,8 @@
 -- The search among graduated pools, by chunks of 32 bytes.
 -- Assumes nothing.
-use Rattle.std.proofs.Common.{◌≡◌, ℕ, suc, ◌/◌, ◌<◌, ◌||◌, List, [], ◌∷◌, ◌++◌, length, take, drop, refl, ap, arith, length-append, ◌∙◌, sym}
-use Rattle.std.proofs.Math.Seq.{take-append_seam, drop-append_seam}
-use Rattle.std.specs.List.{list_any}
-use Rattle.std.specs.declared.slice.ChunksExact.{ChunksExact}
-use Rattle.std.specs.Slice.Iter.{chunks_exact_rest, chunks_exact_size, chunks_exact_steps}
-use Rattle.std.proofs.lemmas.Iterator.{YieldsList}
-use Rattle.std.proofs.lemmas.Iterator.Splits.{YieldsList-from_shown_while}
+use Rattle.std.proofs.Common.{◌≡◌, ℕ, zero, suc, ◌+◌, ◌||◌, List, [], ◌∷◌, length, get_or, take, drop, refl, sym, ap, ◌∙◌, add-zero, arith}
+use Rattle.std.specs.List.{list_any, range_with_len}
+use Rattle.std.specs.Simd.{first_chunks}
 use Rattle.wire.specs.Same.{same}
 use Rattle.ids.specs.Keys.{Key}
 use Rattle.pack.specs.Items.{rows}
@@ -18,31 +14,16 @@ unfolding contains
 contains-any [] k = refl
 contains-any (p ∷ ps) k = ap (λ b. same p k || b) (contains-any ps k)
 
--- one row, and those after it
-rows-more : (x r : List ℕ) → length x ≡ 32 → rows 32 (length (x ++ r) / 32) (x ++ r) ≡ x ∷ rows 32 (length r / 32) r
+-- the first n chunks are the first n rows
+pub rows-chunks : (w n : ℕ) (s : List ℕ) → first_chunks w n s ≡ rows w n s
 unfolding rows
-rows-more x r h =
-    let e : length (x ++ r) / 32 ≡ suc (length r / 32) = omega (arith, length-append x r) in
-    let t : take 32 (x ++ r) ≡ x = ap (λ n. take n (x ++ r)) (sym h) ∙ take-append_seam x r in
-    let d : drop 32 (x ++ r) ≡ r = ap (λ n. drop n (x ++ r)) (sym h) ∙ drop-append_seam x r in
-    rw (e, t, d)
+rows-chunks w zero s = refl
+rows-chunks w (suc n) s = ap (λ r. take w s ∷ r) (rows-chunks w n (drop w s))
 
--- fewer bytes are no row
-rows-none : (r : List ℕ) → length r < 32 → length (rows 32 (length r / 32) r) ≡ 0
-unfolding rows
-rows-none r h =
-    let e : length r / 32 ≡ 0 = omega arith in
-    rw e
-
--- chunks of 32 bytes are the rows
-pub YieldsList-from_rows : (s : ChunksExact ℕ) → chunks_exact_size s ≡ 32
-    → YieldsList chunks_exact_steps (λ x. x.now) s (rows 32 (length (chunks_exact_rest s) / 32) (chunks_exact_rest s))
-YieldsList-from_rows s h =
-    YieldsList-from_shown_while chunks_exact_steps (λ x. x.now) (λ t. rows 32 (length (chunks_exact_rest t) / 32) (chunks_exact_rest t))
-    (λ t. chunks_exact_size t ≡ 32)
-    (λ t u p e. rows-none (chunks_exact_rest t) (omega (arith, e.1.0, p)))
-    (λ t x u p e.
-    let more : rows 32 (length (chunks_exact_rest t) / 32) (chunks_exact_rest t) ≡ x.now ∷ rows 32 (length (chunks_exact_rest u) / 32) (chunks_exact_rest u) =
-    rw e.1.0 (rows-more x.now (chunks_exact_rest u) (e.1.1 ∙ p)) in
-    (e.0 ∙ p, more))
-    s h
+-- and as `any` over their places goes through them, f from place a on
+pub any-place : (k : Key) (f : ℕ → Key) (a : ℕ) (ps : List Key) → ((i : ℕ) → f (a + i) ≡ get_or ps i [])
+    → list_any (λ i. same (f i) k) (range_with_len a (length ps)) ≡ list_any (λ p. same p k) ps
+any-place k f a [] h = refl
+any-place k f a (p ∷ ps) h =
+    let first : f a ≡ p = ap f (sym (add-zero a)) ∙ h 0 in
+    rw (first, any-place k f (a + 1) ps (λ i. ap f (omega arith) ∙ h (suc i)))

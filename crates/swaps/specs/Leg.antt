@@ -8,8 +8,8 @@ use Rattle.ids.specs.Keys.{Key, is_zero}
 use Rattle.swaps.specs.declared.Pair.{Pair}
 use Rattle.swaps.specs.declared.Swap.{Swap}
 
--- `exact` is `amount_specified_is_input`, `amount` and `threshold` are `specified_amount` and `other_amount_threshold`,
--- `mode` is `stonkfun_mode`
+-- `exact` is `amount_specified_is_input`, `amount` and `threshold` are `specified_amount` and `other_amount_threshold`;
+-- `protocol` is 1 to 8 in the order of `SwapProtocol`, `mode` is `stonkfun_mode`: 0 none, 1 standard, 2 reward
 pub record RouteLeg : Type 0 where
   pub protocol : ℕ
   pub pool : Key

@@ -26,15 +26,19 @@ struct Slice {
 }
 
 // The slice at `at`: a known tag, and the length byte after it.
-#[tactic(auto, using(std::proofs::lemmas::Option::gets))]
 fn slice_at(data: &[u8], at: usize) -> Option<Slice>
     ensures { result ≡ slice_at «data».now at }
 {
-    let size = tag_size(*data.get(at)?)?;
-    let length = *data.get(at + size)?;
+    if data.len() <= at {
+        return None;
+    }
+    let size = tag_size(data[at])?;
+    if data.len() <= at + size {
+        return None;
+    }
     Some(Slice {
         end: at + size + 1,
-        claims: usize::from(length),
+        claims: usize::from(data[at + size]),
     })
 }
 

@@ -40,11 +40,13 @@ impl<'a> Instruction<'a> {
     }
 
     // The byte at `at` as a bool: 0 or 1.
-    #[tactic(auto, using(std::proofs::lemmas::Option::gets))]
     pub fn flag(&self, at: usize) -> Option<bool>
         ensures { result ≡ flag_at self.now.bytes.now at }
     {
-        match *self.bytes.get(at)? {
+        if self.bytes.len() <= at {
+            return None;
+        }
+        match self.bytes[at] {
             0 => Some(false),
             1 => Some(true),
             _ => None,
@@ -74,14 +76,15 @@ impl<'a> Instruction<'a> {
     }
 
     // The key of an account, zero where there is none.
-    #[tactic(auto, using(std::proofs::lemmas::Option::gets), unfolding(ids::specs::Keys::zero_key))]
+    #[tactic(auto, unfolding(ids::specs::Keys::zero_key))]
     pub fn account(&self, place: u8) -> &'a [u8]
         ensures { result.now ≡ account_of (key_of self.now.keys.now) self.now.accounts.now place }
     {
-        match self.accounts.get(usize::from(place)) {
-            Some(index) => ids::key(self.keys, &[0; 32], usize::from(*index)),
-            None => &[0; 32],
+        let place = usize::from(place);
+        if self.accounts.len() <= place {
+            return &[0; 32];
         }
+        ids::key(self.keys, &[0; 32], usize::from(self.accounts[place]))
     }
 
     // Whether two accounts are one key.

@@ -16,7 +16,8 @@ pub const WIDTH: usize = 250;
 fn holds(pools: &[u8], key: &[u8]) -> bool
     ensures { result ≡ contains (pools_in pools.now) key.now }
 {
-    pools.chunks_exact(32).any(|row| wire::equal(row, key))
+    let (rows, _) = pools.as_chunks::<32>();
+    (0..rows.len()).any(|i| wire::equal(&rows[i], key))
 }
 
 // A CPMM pool that is among the graduated ones.
