@@ -27,11 +27,14 @@ pub(crate) fn fill(
     if names.len() != 88 {
         return Err(Refusal::Names);
     }
+    // All arrays stand before the first call: one that is declared behind it is cleared there, and at entry too.
     let mut at = [0u32; 1024];
     let mut places = [BLANK; 1024];
-    let n = pack::flatten(pack, &mut at, &mut places)?;
     let mut known = [0u8; 8192];
     let mut programs = [Id::Unresolved; 1024];
+    let mut reasons = [0u8; 1024];
+    let mut leg = [0u32; 1024];
+    let n = pack::flatten(pack, &mut at, &mut places)?;
     let made = mints::infer(
         pack::section(pack, 0),
         pack::section(pack, 1),
@@ -41,9 +44,7 @@ pub(crate) fn fill(
         &mut known,
         &mut programs,
     )?;
-    let mut reasons = [0u8; 1024];
     let transfers = transfers::put_rows(pack, n, &at, &programs, &known, t2, &mut reasons);
-    let mut leg = [0u32; 1024];
     let legs = legs::put_rows(names, pack, n, &at, &programs, &known, t3, &mut leg);
     let natives = actions::put_rows(pack, n, &at, &programs, &known, t4);
     let tests = invocations::put_rows(n, &places, &programs, &reasons, &leg, t1);
