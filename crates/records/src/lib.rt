@@ -3,7 +3,7 @@
 // A record is its length in four bytes, and then so many bytes. What these say is the affair of the call.
 #![tactic(auto)]
 
-ghost use Rattle.std.specs.Prelude.{◌≡◌, ◌+◌, ◌-◌, ◌≤◌, ◌<◌, ◌^◌, ◌++◌, take, codes, IfOk, IfSome, OnOk, Some};
+ghost use Rattle.std.specs.Prelude.{◌≡◌, ◌+◌, ◌-◌, ◌≤◌, ◌<◌, ◌^◌, ◌++◌, cond, take, codes, is_ok, IfOk, IfSome, OnOk, Some};
 ghost use Rattle.std.specs.Io.KnownBytes.{Appends};
 ghost use Rattle.records.specs.Told.{totals, TellsOf, Goes, TellsAll};
 
@@ -57,7 +57,7 @@ struct Totals {
     ghost among: { different ≤ answers },
 }
 
-// Writes in what record k differs.
+// Writes in what record k differs, by one `write`, so that what another writes to the same output does not come between its pieces.
 fn tell<D: Display + Drop, W: Write>(
     alloc: Global,
     k: u32,
@@ -67,7 +67,8 @@ fn tell<D: Display + Drop, W: Write>(
     ensures { OnOk result (TellsOf (W.contents output.old) (W.contents output.new) k) }
 {
     let text = difference.to_string(alloc)?;
-    writeln!(output, "record {k}: {text}")
+    let line = format!(in alloc; "record {k}: {text}\n")?;
+    output.write_all(line.as_bytes())
 }
 
 impl Totals {
@@ -80,6 +81,7 @@ impl Totals {
     ) -> io::Result<Totals>
         requires { self.answers < 2 ^ 32 - 1 }
         ensures { IfOk result (λ new. (new.answers ≡ self.answers + 1)
+            × (new.different ≡ self.different + cond (is_ok held) 0 1)
             × Goes (W.contents output.old) (W.contents output.new) self.answers self.different new.answers new.different) }
     {
         let Totals { answers, different } = self;
@@ -174,7 +176,8 @@ pub fn run<C: Call, R: Read, W: Write>(
         };
         totals = totals.count(alloc, held, output)?;
     }
-    writeln!(output, "{totals}")
+    let line = format!(in alloc; "{totals}\n")?;
+    output.write_all(line.as_bytes())
 }
 
 #[cfg(test)]
@@ -244,6 +247,34 @@ mod tests {
             "record 1: {unfit}\nrecord 2: {unfit}\n4 answers, 2 different\n"
         )?;
         assert_eq!(rt; output.as_slice(), told.as_bytes());
+        Ok(())
+    }
+
+    // Ends what each `write` brings by a stroke, so that a line in pieces shows.
+    #[derive(Drop)]
+    struct Strokes(Vec<u8>);
+
+    impl Write for Strokes {
+        fn write(&mut self, buf: &[u8]) -> io::Result<usize> {
+            self.0.extend_from_slice(buf)?;
+            self.0.push(b'|')?;
+            Ok(buf.len())
+        }
+
+        fn flush(&mut self) -> io::Result<()> {
+            Ok(())
+        }
+    }
+
+    #[test]
+    fn writes_each_line_at_once(rt: HostRuntime) -> Result<(), Fail> {
+        let mut output = Strokes(Vec::new(rt.alloc()));
+        run(rt.alloc(), &mut STORED.as_slice(), &mut output, &mut Passer)?;
+        let unfit = "cut off, or too long for this program";
+        let told = format!(in rt.alloc();
+            "record 1: {unfit}\n|record 2: {unfit}\n|3 answers, 2 different\n|"
+        )?;
+        assert_eq!(rt; output.0.as_slice(), told.as_bytes());
         Ok(())
     }
 }

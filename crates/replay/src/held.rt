@@ -86,7 +86,7 @@ fn numbers(a: &Answer) -> [u32; 9] {
 fn holds(table: &[u8], rows: &[u8]) -> bool {
     table
         .strip_prefix(rows)
-        .is_some_and(|rest| rest.iter().all(|byte| *byte == 0))
+        .is_some_and(|rest| rest.iter().fold(0, |all, byte| all | byte) == 0)
 }
 
 // The nine numbers, then the rows of each table: their bytes stand one behind the other.
