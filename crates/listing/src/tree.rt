@@ -94,8 +94,8 @@ fn branches(
     ensures { OnOk result (string_bytes text.new
         ≡ string_bytes text.old ++ first_lines (branch_of (positions places.now n) own.now) n) }
 {
+    let mut list = [0u32; 1024];
     for i in 0..n {
-        let mut list = [0u32; 1024];
         let found = finder::block(n, places, own, i);
         let count = finder::children(n, places, own, i, &mut list);
         let children = &list[..count];
