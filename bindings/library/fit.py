@@ -1,24 +1,19 @@
 """Fits the module of a proved library, which the kit made for one target, its base, to another target.
 
-The module's functions stay as they are, word for word, but for how a pointer lies in memory where addresses have 32 bits: it keeps its eight bytes there (`narrow`).
-What changes is the lines that name the machine, and how the exported functions are called: each gets a skin that is called as the target's C has it and
-calls the proved one. How that is, the compiler says itself: it reads the C header and writes a declaration of each function, once for the base, which has to be
-what the module has, and once for the target.
+The module's functions stay as they are, word for word. What changes is the lines that name the machine, and how the exported functions are called: each gets
+a skin that is called as the target's C has it and calls the proved one. How that is, the compiler says itself: it reads the C header and writes a declaration
+of each function, once for the base, which has to be what the module has, and once for the target.
 """
 
-import itertools
 import re
 from collections import namedtuple
 
 FUNCTION = re.compile(r"^(define|declare) ([^@\n]*) @(\w+)(\(.*)$", re.M)
 STRUCTS = re.compile(r"^%struct\..* = type .*\n", re.M)
 MACHINE = re.compile(r'^target (?:datalayout|triple) = ".*"\n', re.M)
-# Where addresses have 32 bits: what reads one as a number of 64, a pointer's place on the stack, a pointer that is stored, and structs with a pointer that are read.
-ADDRESS = re.compile(r"\bptrtoaddr (?=ptr .* to i64$)", re.M)
-PLACE = re.compile(r"\balloca ptr, align 8$", re.M)
-STORED = re.compile(r"^( *)store ptr ([%@]\S+), (ptr .*, align 8.*)$", re.M)
-READ = re.compile(r"^( *)(%\S+) = load \{ (i\d+), ptr \}, ptr (%[^\s,]+), (align \d+)$", re.M)
-STRUCT = re.compile(r"\b(?:load|store) (?!\{ ptr, i64 \})\{[^}]*\bptr\b")
+# What touches memory, with the type that it does it by; and what else may differ where addresses have 32 bits: an address as a number, and one in a constant.
+MEMORY = re.compile(r"\b(alloca|load|store|getelementptr) (.*)$", re.M)
+ADDRESS = re.compile(r"\b(?:ptrtoaddr|ptrtoint|inttoptr)\b|^@.* (?:constant|global) .*\bptr\b", re.M)
 PROCESSOR = re.compile(r' "(?:target-cpu|tune-cpu|target-features)"="[^"]*"')
 
 # Where a skin keeps an answer that the two sides have in different places. No target's C has more bytes of an answer in registers.
@@ -117,34 +112,15 @@ def skin(name, proved, in_memory, target):
     return f"define {target.words}{target.answer} @{name}({parameters}) nounwind {{\n{body}\n}}\n"
 
 
-def narrow(module):
-    """The module where addresses have 32 bits. In memory a pointer keeps its eight bytes, the upper four of them zero, and what stands behind it or before it its place."""
-    numbers = itertools.count()
-
-    def stored(found):
-        space, pointer, place = found.groups()
-        wide = f"%wide.{next(numbers)}"
-        return f"{space}{wide} = ptrtoint ptr {pointer} to i64\n{space}store i64 {wide}, {place}"
-
-    def read(found):
-        space, struct, kind, place, align = found.groups()
-        n = next(numbers)
-        return "\n".join(
-            space + line
-            for line in (
-                f"%first.{n} = load {kind}, ptr {place}, {align}",
-                f"%place.{n} = getelementptr i8, ptr {place}, i64 8",
-                f"%second.{n} = load ptr, ptr %place.{n}, {align}",
-                f"%half.{n} = insertvalue {{ {kind}, ptr }} poison, {kind} %first.{n}, 0",
-                f"{struct} = insertvalue {{ {kind}, ptr }} %half.{n}, ptr %second.{n}, 1",
-            )
-        )
-
-    module = PLACE.sub("alloca [8 x i8], align 8", ADDRESS.sub("ptrtoint ", module))
-    module = READ.sub(read, STORED.sub(stored, module))
-    if other := STRUCT.search(module):
-        raise Unfit(f"the module has a struct in memory whose pointer lies elsewhere where addresses have 32 bits: {other[0]}")
-    return module
+def check_addresses(module):
+    """Whether the module is the same where addresses have 32 bits: a pointer stands alone in memory, or before a number of 64 bits, and no address is a number."""
+    for kind, rest in MEMORY.findall(module):
+        held = parts(rest, ",")[0]
+        together = re.search(r"[\[{<].*\bptr\b", held) and "{ ptr, i64 }" not in parts(held, " ")
+        if together or kind == "getelementptr" and re.search(r"\bptr\b", held):
+            raise Unfit(f"the module has what lies elsewhere where addresses have 32 bits: {kind} {rest}")
+    if other := ADDRESS.search(module):
+        raise Unfit(f"the module has what is otherwise where addresses have 32 bits: {other[0]}")
 
 
 def fit(module, here, there):
@@ -159,5 +135,5 @@ def fit(module, here, there):
     if "-i64:64-" not in "".join(machine):
         raise Unfit("the target has numbers of 64 bits at other places than multiples of 8")
     if "-p:32:32-" in "".join(machine):
-        module = narrow(module)
+        check_addresses(module)
     return "".join([*machine, PROCESSOR.sub("", MACHINE.sub("", module)), *structs, *skins])
